@@ -7,12 +7,8 @@ use Rattle.std.proofs.lemmas.List.Elements.{Contains-get_or}
 use Rattle.std.proofs.lemmas.Option.{slice_get_within}
 use Rattle.attr_sets.specs.Attributes.{Attributes, below, intersection, IsSubset}
 use Rattle.attr_sets.proofs.AttributesLemmas.{tell_subset, same_at}
-use Rattle.dep_model.specs.declared.column_type.ColumnType.{ColumnType}
-use Rattle.dep_model.specs.declared.column_type.ColumnType.TheVariants.{Integer}
-use Rattle.dep_model.specs.declared.schema.Schema.{Schema}
-use Rattle.dep_model.specs.Schemas.{width_of, types_of, theory_of, deps_of, LegalFor, TypedFor}
-use Rattle.dep_model.specs.Columns.{IsTyped}
-use Rattle.dep_model.specs.Integers.{IsIntegerText}
+use Rattle.dep_model.specs.Theories.{Theory}
+use Rattle.dep_model.specs.Theories.{width_of, theory_of, deps_of, LegalFor}
 use Rattle.dep_model.specs.Tuples.{Tuple, Relation, value_at, AgreeOn, IsOver}
 use Rattle.dep_model.specs.Dependencies.{Dependency, fd, ObeysFd, is_fd, functional_part, left_of, right_of, IsWithin}
 use Rattle.dep_model.specs.Implication.{IsLegal, Implies}
@@ -21,7 +17,6 @@ use Rattle.dep_model.proofs.DepLemmas.{dependencies_all-from}
 use Rattle.dep_model.proofs.ListLemmas.{Contains-head}
 use Rattle.dep_model.proofs.PreservationLemmas.{fd-obeys, fd-obeyed}
 use Rattle.dep_model.proofs.TwoTupleLemmas.{value_at-all_zeros}
-use Rattle.dep_model.proofs.NumeralLemmas.{decimal_integer}
 use Rattle.fd_closure.proofs.ClosureLemmas.{fd_each-to, fd_each-from}
 use Rattle.fd_closure.proofs.ClosedSets.{all_functional}
 use Rattle.armstrong_rel.specs.ClosedSets.{IsClosedSet, AreIrreducible}
@@ -139,36 +134,13 @@ armstrong_legal n ds r within same over armstrong = record {
       (λ s legal. fd-obeyed n e s is (legal.obeys k d l)));
 }
 
--- ---- and its values are integer texts
-
-pub tuples_typed : (n : ℕ) (columns : List ColumnType) (sets : List Attributes) → length columns ≡ n → length sets < 2 ^ 63
-    → IsTyped columns (tuples_for n sets)
-tuples_typed n columns sets one_each within_limit i d l k is_integer =
-    let low : k < n = omega (
-      arith,
-      slice_get_within
-          columns k Integer is_integer,
-      one_each,
-    ) in
-    let t : Tuple = get_or (tuples_for n sets) i d in
-    let found = tuple_of_number n sets t (Contains-get_or (tuples_for n sets) i d l) in
-    let j = found.0 in
-    let x = set_of n sets j in
-    subst (λ (u : Tuple). IsIntegerText (value_at u k)) (sym found.2)
-    (⊎_elim
-    (λ inside. subst IsIntegerText (sym (value_inside n j x k low inside)) (inl refl))
-    (λ outside. subst IsIntegerText (sym (value_outside n j x k low outside))
-    (decimal_integer j (omega (arith, found.1, within_limit))))
-    (cases_Bool (x k)))
-
 -- ---- what is proved of a schema of functional dependencies
-pub record IsLegalExhibit (s : Schema) (r : Relation) : Type 0 where
+pub record IsLegalExhibit (s : Theory) (r : Relation) : Type 0 where
   pub exhibit : IsExhibit (width_of s) (theory_of s) r
   pub armstrong : IsArmstrong (width_of s) (theory_of s) r
   pub legal : LegalFor s r
-  pub typed : TypedFor s r
 
-pub tuples_for_exhibit : (s : Schema) (sets : List Attributes) → functional_part (theory_of s) ≡ theory_of s
+pub tuples_for_exhibit : (s : Theory) (sets : List Attributes) → functional_part (theory_of s) ≡ theory_of s
     → AreIrreducible (width_of s) (theory_of s) sets → length sets < 2 ^ 63 → IsLegalExhibit s (tuples_for (width_of s) sets)
 tuples_for_exhibit s sets same are within_limit =
     let within = dependencies_all-from (IsWithin (below (width_of s))) (deps_of s) s.valid.deps_within in
@@ -178,5 +150,4 @@ tuples_for_exhibit s sets same are within_limit =
       armstrong = armstrong;
       legal = armstrong_legal (width_of s) (theory_of s) (tuples_for (width_of s) sets) within same
           (tuples_over (width_of s) sets) armstrong;
-      typed = tuples_typed (width_of s) (types_of s) sets s.typed.one_each within_limit;
     }

@@ -6,11 +6,11 @@ use Rattle.attr_sets.specs.Sets.{attributes}
 use Rattle.attr_sets.specs.declared.set.AttrSet.{AttrSet}
 use Rattle.attr_sets.specs.declared.set.TheConstants.{MOST_ATTRIBUTES}
 use Rattle.dep_model.specs.declared.dep.Dep.{Dep}
-use Rattle.dep_model.specs.declared.schema.Schema.{Schema}
+use Rattle.dep_model.specs.Theories.{Theory}
 use Rattle.dep_model.specs.Dependencies.{functional_part}
 use Rattle.dep_model.specs.Deps.{dependencies_of}
 use Rattle.dep_model.specs.Plans.{schemes_of}
-use Rattle.dep_model.specs.Schemas.{width_of, theory_of, deps_of}
+use Rattle.dep_model.specs.Theories.{width_of, theory_of, deps_of}
 use Rattle.dep_model.specs.Tuples.{Relation}
 use Rattle.fd_closure.specs.LeftSides.{left_sides}
 use Rattle.armstrong_rel.specs.declared.refusal.TheConstants.{MOST_EXHIBITED_ROWS}
@@ -22,18 +22,18 @@ use Rattle.armstrong_rel.proofs.FoundLemmas.{found_all}
 use Rattle.armstrong_rel.proofs.TupleLemmas.{length-tuples_for}
 
 -- the list that was read from a schema is functional
-pub schema_functional : (s : Schema) (deps : List Dep) → deps ≡ deps_of s → functional_part (dependencies_of deps) ≡ dependencies_of deps → IsFunctional s
+pub schema_functional : (s : Theory) (deps : List Dep) → deps ≡ deps_of s → functional_part (dependencies_of deps) ≡ dependencies_of deps → IsFunctional s
 schema_functional s deps same functional =
     subst (λ (ds : List Dep). functional_part (dependencies_of ds) ≡ dependencies_of ds) same functional
 
 -- how many attributes stand in left sides
-pub left_count : (s : Schema) (deps : List Dep) (used : Attributes) → deps ≡ deps_of s → used ≡ left_sides (dependencies_of deps)
+pub left_count : (s : Theory) (deps : List Dep) (used : Attributes) → deps ≡ deps_of s → used ≡ left_sides (dependencies_of deps)
     → count_below used MOST_ATTRIBUTES ≡ count_below (left_sides (theory_of s)) MOST_ATTRIBUTES
 left_count s deps used same is =
     ap (λ (x : Attributes). count_below x MOST_ATTRIBUTES) (is ∙ ap (λ (ds : List Dep). left_sides (dependencies_of ds)) same)
 
 -- the rows of the sets that were found, where they are all
-pub found_exhibit : (s : Schema) (n : ℕ) (found given : List AttrSet) (rows : Relation) → n ≡ width_of s → IsFunctional s
+pub found_exhibit : (s : Theory) (n : ℕ) (found given : List AttrSet) (rows : Relation) → n ≡ width_of s → IsFunctional s
     → AreFoundSets (width_of s) (theory_of s) found → length found < MOST_EXHIBITED_ROWS → given ≡ found
     → rows ≡ tuples_for n (schemes_of given) → IsLegalExhibit s rows × (length rows ≤ MOST_EXHIBITED_ROWS)
 found_exhibit s n found given rows width functional sets few same is =

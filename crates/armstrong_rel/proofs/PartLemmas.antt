@@ -5,8 +5,8 @@ use Rattle.std.proofs.lemmas.Bool.{true≢false, cases_eq, cases_Bool, lt-ltb, f
 use Rattle.std.proofs.lemmas.Bool.Decides.{nat_tests}
 use Rattle.attr_sets.specs.Attributes.{Attributes, below, only, union, intersection, IsSubset}
 use Rattle.attr_sets.proofs.AttributesLemmas.{same_from_within, tell_subset}
-use Rattle.dep_model.specs.declared.schema.Schema.{Schema}
-use Rattle.dep_model.specs.Schemas.{universe_of, theory_of, deps_of}
+use Rattle.dep_model.specs.Theories.{Theory}
+use Rattle.dep_model.specs.Theories.{universe_of, theory_of, deps_of}
 use Rattle.dep_model.proofs.DepLemmas.{dependencies_all-from}
 use Rattle.dep_model.specs.Dependencies.{Dependency, functional_part, IsWithin, left_of}
 use Rattle.dep_model.specs.Keys.{InClosure}
@@ -19,7 +19,7 @@ use Rattle.armstrong_rel.specs.Parts.{IsClosedPart, IsShared, IsLacking, filled_
 use Rattle.armstrong_rel.proofs.ClosedLemmas.{functional_closures, closure_more, closure_member, closure_holds, closure_closed, with_more}
 
 -- the dependencies of a schema are over its universe
-pub schema_within : (s : Schema) → All (IsWithin (universe_of s)) (theory_of s)
+pub schema_within : (s : Theory) → All (IsWithin (universe_of s)) (theory_of s)
 schema_within s = dependencies_all-from (IsWithin (universe_of s)) (deps_of s) s.valid.deps_within
 
 -- each left side lies within them all

@@ -12,7 +12,7 @@ use Rattle.dep_model.specs.Tuples.{Tuple, Relation, value_at, IsOver}
 use Rattle.dep_model.specs.TwoTuples.{zero_text, all_zeros}
 use Rattle.dep_model.proofs.ListLemmas.{Contains-head, Contains-later, Contains-cases}
 use Rattle.dep_model.proofs.TwoTupleLemmas.{length-all_zeros, value_at-all_zeros}
-use Rattle.dep_model.proofs.NumeralLemmas.{decimal_zero}
+use Rattle.dep_model.proofs.TwoTupleLemmas.{decimal_zero}
 use Rattle.armstrong_rel.specs.Exhibits.{numbered_tuple, numbered_from, tuples_for}
 
 -- ---- the values of one

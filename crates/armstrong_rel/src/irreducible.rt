@@ -1,7 +1,7 @@
 ghost use Rattle.std.specs.Prelude.{◌≡◌, ℕ, ◌<◌, ◌≤◌, ◌↔◌, ◌++◌, ◌∷◌, [], true, length, All, IfOk, OnOk};
 ghost use Rattle.attr_sets.specs.Attributes.{IsSubset};
 ghost use Rattle.attr_sets.specs.Sets.{attributes};
-ghost use Rattle.dep_model.specs.Schemas.{width_of, universe_of, theory_of};
+ghost use Rattle.dep_model.specs.Theories.{width_of, universe_of, theory_of};
 ghost use Rattle.fd_closure.specs.LeftSides.{left_sides};
 ghost use Rattle.armstrong_rel.specs.declared.refusal.TheConstants.{MOST_EXHIBITED_ROWS};
 ghost use Rattle.fd_closure.specs.Closures.{IsKnownClosure};
@@ -12,7 +12,7 @@ ghost use Rattle.armstrong_rel.specs.Searching.{AreTriedIrreducible, AreFoundSet
 use crate::closures::{closed_at, closures};
 use crate::refusal::MOST_EXHIBITED_ROWS;
 use attr_sets::AttrSet;
-use dep_model::{OutOfMemory, Schema};
+use dep_model::{OutOfMemory, Theory};
 use fd_closure::KnownClosure;
 use std::alloc::Global;
 
@@ -20,20 +20,20 @@ use std::alloc::Global;
 // found from what it has of the left sides.
 pub fn irreducible_sets(
     alloc: Global,
-    schema: &Schema,
+    theory: &Theory,
     used: AttrSet,
 ) -> Result<Vec<AttrSet>, OutOfMemory>
-    requires functional { IsFunctional schema.now }
-    requires used { attributes used ≡ left_sides (theory_of schema.now) }
+    requires functional { IsFunctional theory.now }
+    requires used { attributes used ≡ left_sides (theory_of theory.now) }
     ensures sets { IfOk result (λ found.
-        AreFoundSets (width_of schema.now) (theory_of schema.now) found.items) }
+        AreFoundSets (width_of theory.now) (theory_of theory.now) found.items) }
 {
-    let table = closures(alloc, schema, used)?;
+    let table = closures(alloc, theory, used)?;
     let mut found = Vec::new(alloc);
     let mut position: usize = 0;
     let mut next = Some(AttrSet::empty());
     while let Some(part) = next {
-        add_sets_with(schema, used, &table, part, position, &mut found)?;
+        add_sets_with(theory, used, &table, part, position, &mut found)?;
         position = position.wrapping_add(1);
         next = part.next_subset(used);
     }
@@ -43,51 +43,51 @@ pub fn irreducible_sets(
 
 // Adds the irreducible closed sets that have just this part of the left sides.
 fn add_sets_with(
-    schema: &Schema,
+    theory: &Theory,
     used: AttrSet,
     table: &[KnownClosure],
     part: AttrSet,
     position: usize,
     found: &mut Vec<AttrSet>,
 ) -> Result<(), OutOfMemory>
-    requires functional { IsFunctional schema.now }
-    requires used { attributes used ≡ left_sides (theory_of schema.now) }
-    requires table { All (IsKnownClosure (width_of schema.now) (theory_of schema.now)) table.now }
-    requires part { IsSubset (attributes part) (left_sides (theory_of schema.now)) }
-    requires found { AreTriedIrreducible (width_of schema.now) (theory_of schema.now)
-        (HasPartBefore (theory_of schema.now) (attributes part)) found.old.items }
-    ensures found { OnOk result (AreTriedIrreducible (width_of schema.now) (theory_of schema.now)
-        (HasPartUpTo (theory_of schema.now) (attributes part)) found.new.items) }
+    requires functional { IsFunctional theory.now }
+    requires used { attributes used ≡ left_sides (theory_of theory.now) }
+    requires table { All (IsKnownClosure (width_of theory.now) (theory_of theory.now)) table.now }
+    requires part { IsSubset (attributes part) (left_sides (theory_of theory.now)) }
+    requires found { AreTriedIrreducible (width_of theory.now) (theory_of theory.now)
+        (HasPartBefore (theory_of theory.now) (attributes part)) found.old.items }
+    ensures found { OnOk result (AreTriedIrreducible (width_of theory.now) (theory_of theory.now)
+        (HasPartUpTo (theory_of theory.now) (attributes part)) found.new.items) }
 {
-    let closed = closed_at(schema, table, part, position);
+    let closed = closed_at(theory, table, part, position);
     if closed.intersection(used) != part {
         return Ok(());
     }
-    let shared = shared_beyond(schema, used, table, part, position);
-    add_lacking(schema, used, part, shared.difference(closed), found)
+    let shared = shared_beyond(theory, used, table, part, position);
+    add_lacking(theory, used, part, shared.difference(closed), found)
 }
 
 // The attributes that a part of the left sides determines with each further attribute of them.
 fn shared_beyond(
-    schema: &Schema,
+    theory: &Theory,
     used: AttrSet,
     table: &[KnownClosure],
     part: AttrSet,
     position: usize,
 ) -> AttrSet
-    requires functional { IsFunctional schema.now }
-    requires used { attributes used ≡ left_sides (theory_of schema.now) }
-    requires table { All (IsKnownClosure (width_of schema.now) (theory_of schema.now)) table.now }
-    requires part { IsSubset (attributes part) (left_sides (theory_of schema.now)) }
-    ensures shared { IsSharedBeyond (width_of schema.now) (theory_of schema.now) (attributes part)
+    requires functional { IsFunctional theory.now }
+    requires used { attributes used ≡ left_sides (theory_of theory.now) }
+    requires table { All (IsKnownClosure (width_of theory.now) (theory_of theory.now)) table.now }
+    requires part { IsSubset (attributes part) (left_sides (theory_of theory.now)) }
+    ensures shared { IsSharedBeyond (width_of theory.now) (theory_of theory.now) (attributes part)
         (attributes result) }
 {
-    let mut shared = AttrSet::full(schema.width());
+    let mut shared = AttrSet::full(theory.width());
     let mut step: usize = 1;
-    for attribute in 0..schema.width() {
+    for attribute in 0..theory.width() {
         if used.difference(part).contains(attribute) {
             let more = part.with(attribute);
-            let closed = closed_at(schema, table, more, position.wrapping_add(step));
+            let closed = closed_at(theory, table, more, position.wrapping_add(step));
             shared = shared.intersection(closed);
         }
         if used.contains(attribute) {
@@ -100,27 +100,27 @@ fn shared_beyond(
 // Adds the irreducible closed sets with a closed part of the left sides: for each attribute that the part
 // lacks and would determine with any further attribute, all attributes in no left side but that one.
 fn add_lacking(
-    schema: &Schema,
+    theory: &Theory,
     used: AttrSet,
     part: AttrSet,
     lacking: AttrSet,
     found: &mut Vec<AttrSet>,
 ) -> Result<(), OutOfMemory>
-    requires functional { IsFunctional schema.now }
-    requires used { attributes used ≡ left_sides (theory_of schema.now) }
-    requires part { IsSubset (attributes part) (left_sides (theory_of schema.now)) }
-    requires closed { IsClosedPart (width_of schema.now) (theory_of schema.now) (attributes part) }
+    requires functional { IsFunctional theory.now }
+    requires used { attributes used ≡ left_sides (theory_of theory.now) }
+    requires part { IsSubset (attributes part) (left_sides (theory_of theory.now)) }
+    requires closed { IsClosedPart (width_of theory.now) (theory_of theory.now) (attributes part) }
     requires lacking { (a : ℕ) → (attributes lacking a ≡ true)
-        ↔ IsLacking (width_of schema.now) (theory_of schema.now) (attributes part) a }
-    requires found { AreTriedIrreducible (width_of schema.now) (theory_of schema.now)
-        (HasPartBefore (theory_of schema.now) (attributes part)) found.old.items }
-    ensures found { OnOk result (AreTriedIrreducible (width_of schema.now) (theory_of schema.now)
-        (HasPartUpTo (theory_of schema.now) (attributes part)) found.new.items) }
+        ↔ IsLacking (width_of theory.now) (theory_of theory.now) (attributes part) a }
+    requires found { AreTriedIrreducible (width_of theory.now) (theory_of theory.now)
+        (HasPartBefore (theory_of theory.now) (attributes part)) found.old.items }
+    ensures found { OnOk result (AreTriedIrreducible (width_of theory.now) (theory_of theory.now)
+        (HasPartUpTo (theory_of theory.now) (attributes part)) found.new.items) }
 {
-    let rest = AttrSet::full(schema.width()).difference(used);
+    let rest = AttrSet::full(theory.width()).difference(used);
     let whole = part.union(rest);
     let lacking_rest = lacking.intersection(rest);
-    for attribute in 0..schema.width() {
+    for attribute in 0..theory.width() {
         if lacking_rest.contains(attribute) {
             add_set(whole.without(attribute), found)?;
         }

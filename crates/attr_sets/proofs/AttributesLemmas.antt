@@ -1,6 +1,6 @@
 -- What the crates above cite about sets of attributes: equality, the tests `is_subset`, `is_same` and
 -- `is_disjoint` as facts, and how many members lie below n.
-use Rattle.std.proofs.Common.{◌≡◌, ℕ, zero, suc, ◌+◌, ◌^◌, ◌<◌, ◌≤◌, ◌≢◌, true, false, not, ◌&&◌, ◌||◌, ◌==◌, refl, sym, ap, ◌∙◌, ◌⊎◌, inl, inr, ⊎_elim, arith, nat_lt, Bool}
+use Rattle.std.proofs.Common.{◌≡◌, ℕ, zero, suc, ◌+◌, ◌^◌, ◌<◌, ◌≤◌, true, false, not, ◌&&◌, ◌||◌, ◌==◌, refl, sym, ap, ◌∙◌, ◌⊎◌, inl, inr, ⊎_elim, arith, nat_lt, Bool}
 use mathlib.Core.Path.{fun_ext}
 use Rattle.std.specs.Bool.{Decides}
 use Rattle.std.proofs.lemmas.Bool.{ltb-true, eqb-true, eq-eqb, cases_eq, cases_lt, cases_Bool, true≢false, and_parts, and_from, and_cases, false_from_ne_true, true_from_ne_false, not-true, not-false}
@@ -44,6 +44,10 @@ attributes-at_number a b same = ap (has_bit MOST_ATTRIBUTES) same
 pub same_number : (a b : AttrSet) → a.0 < 2 ^ MOST_ATTRIBUTES → b.0 < 2 ^ MOST_ATTRIBUTES → attributes a ≡ attributes b → a.0 ≡ b.0
 unfolding attributes
 same_number a b a_fits b_fits same = same_from_has_bit MOST_ATTRIBUTES a.0 b.0 a_fits b_fits (same_at same)
+
+-- two sets with the same members are one, where their numbers are of the width
+pub same_set : (a b : AttrSet) → a.0 < 2 ^ MOST_ATTRIBUTES → b.0 < 2 ^ MOST_ATTRIBUTES → attributes a ≡ attributes b → a ≡ b
+same_set a b a_fits b_fits same = λ i. record { 0 = same_number a b a_fits b_fits same i }
 
 -- each set of attributes below the width is that of some `AttrSet`
 pub set_of_attributes : (x : Attributes) → IsSubset x (below MOST_ATTRIBUTES) → (s : AttrSet) × (s.0 < 2 ^ MOST_ATTRIBUTES) × (attributes s ≡ x)

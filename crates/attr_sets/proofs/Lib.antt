@@ -2,3 +2,4 @@ pub mod BitLemmas
 pub mod OrderLemmas
 pub mod AttributesLemmas
 pub mod UpToLemmas
+pub mod NarrowingLemmas

@@ -6,9 +6,9 @@ use Rattle.attr_sets.specs.Attributes.{Attributes, union, intersection, differen
 use Rattle.attr_sets.specs.Sets.{attributes}
 use Rattle.attr_sets.specs.declared.set.TheConstants.{MOST_ATTRIBUTES}
 use Rattle.attr_sets.proofs.AttributesLemmas.{count_below-lt, count_below-le, same_at}
-use Rattle.dep_model.specs.declared.schema.Schema.{Schema}
+use Rattle.dep_model.specs.Theories.{Theory}
 use Rattle.dep_model.specs.Dependencies.{mvd}
-use Rattle.dep_model.specs.Schemas.{width_of, universe_of, theory_of, ImpliedBy}
+use Rattle.dep_model.specs.Theories.{width_of, universe_of, theory_of, ImpliedBy}
 use Rattle.dep_model.specs.Keys.{IsBlock}
 use Rattle.dep_model.proofs.RuleLemmas.{mvd_intersection_obeyed}
 use Rattle.derivation.specs.Trees.{Tree}
@@ -49,13 +49,13 @@ left_next x y left rest part a t g u before low in_left in_part is size more =
     }
 
 -- ---- the block of an attribute lies within each implied right side that has it
-pub block_within : (s : Schema) (x p y : Attributes) (a : ℕ) → IsBlock (width_of s) (theory_of s) x p → ImpliedBy s (mvd x y) → p a ≡ true → y a ≡ true → IsSubset p y
+pub block_within : (s : Theory) (x p y : Attributes) (a : ℕ) → IsBlock (width_of s) (theory_of s) x p → ImpliedBy s (mvd x y) → p a ≡ true → y a ≡ true → IsSubset p y
 block_within s x p y a block implied in_p in_y k m =
     let shared = block.minimal (intersection p y) (λ j h. grind (arith, h)) (λ none. true≢false (sym (grind (arith, in_p, in_y)) ∙ none a))
     (λ r legal. mvd_intersection_obeyed (universe_of s) x p y r (block.implied r legal) (implied r legal)) k m in
     grind (arith, shared)
 
-pub part_set : (s : Schema) (x : Attributes) (a : ℕ) (w : PartProof) → IsPartProof s x a (attributes w.part) (tree_of w.deriv.value) × IsBlock (width_of s) (theory_of s) x (attributes w.part) → IsSetProof s x a w
+pub part_set : (s : Theory) (x : Attributes) (a : ℕ) (w : PartProof) → IsPartProof s x a (attributes w.part) (tree_of w.deriv.value) × IsBlock (width_of s) (theory_of s) x (attributes w.part) → IsSetProof s x a w
 part_set s x a w h = record {
   member = h.0.member;
   proves = h.0.proves;

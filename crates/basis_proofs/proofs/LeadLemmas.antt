@@ -6,10 +6,10 @@ use Rattle.attr_sets.specs.Attributes.{Attributes, IsSubset}
 use Rattle.attr_sets.specs.Sets.{attributes}
 use Rattle.dep_model.specs.declared.dep.Dep.{Dep}
 use Rattle.dep_model.specs.declared.dep.Dep.TheVariants.{Fd, Mvd}
-use Rattle.dep_model.specs.declared.schema.Schema.{Schema}
+use Rattle.dep_model.specs.Theories.{Theory}
 use Rattle.dep_model.specs.Dependencies.{Dependency, fd}
 use Rattle.dep_model.specs.Deps.{dependency_of, dependencies_of}
-use Rattle.dep_model.specs.Schemas.{deps_of}
+use Rattle.dep_model.specs.Theories.{deps_of}
 use Rattle.dep_model.proofs.DepLemmas.{IfFd}
 use Rattle.derivation.specs.Chains.{IsFirstOut}
 use Rattle.basis_proofs.specs.Leads.{IsRightSideOut}
@@ -30,7 +30,7 @@ pub given_at : (ds : List Dep) (k : ℕ) (d : Dependency) → slice_get (depende
 given_at ds k d here = from_mapped (slice_get ds k) d (sym (slice_get-map dependency_of ds k) ∙ here)
 
 -- none before it leads out
-pub lead_first : (s : Schema) (c : Attributes) (k : ℕ) (e : Dep) (t : Attributes) → k < length (deps_of s) → All (IfFd (λ x y. IsSubset x c → IsSubset y c)) (take k (deps_of s))
+pub lead_first : (s : Theory) (c : Attributes) (k : ℕ) (e : Dep) (t : Attributes) → k < length (deps_of s) → All (IfFd (λ x y. IsSubset x c → IsSubset y c)) (take k (deps_of s))
     → IsRightSideOut c (dependency_of (get_or (deps_of s) k e)) t → IsFirstOut s c k t
 lead_first s c k e t lt none out = record {
   lhs = out.lhs;

@@ -4,9 +4,9 @@ use Rattle.std.specs.Prelude.{◌≡◌, ℕ, ◌+◌, ◌*◌, ◌≤◌, true}
 use Rattle.attr_sets.specs.Attributes.{Attributes, IsSubset, Disjoint, count_below}
 use Rattle.attr_sets.specs.Sets.{attributes}
 use Rattle.attr_sets.specs.declared.set.TheConstants.{MOST_ATTRIBUTES}
-use Rattle.dep_model.specs.declared.schema.Schema.{Schema}
+use Rattle.dep_model.specs.Theories.{Theory}
 use Rattle.dep_model.specs.Dependencies.{Dependency, mvd}
-use Rattle.dep_model.specs.Schemas.{ImpliedBy}
+use Rattle.dep_model.specs.Theories.{ImpliedBy}
 use Rattle.derivation.specs.Trees.{Tree, nodes, depth}
 use Rattle.derivation.specs.Derivs.{tree_of}
 use Rattle.derivation.specs.Conclusions.{Proves}
@@ -15,12 +15,12 @@ use Rattle.basis_proofs.specs.declared.showing.PartProof.{PartProof}
 use Rattle.basis_proofs.specs.CutProofs.{HasSize}
 
 -- a tree proves a dependency, within the limits of a certificate
-pub record IsProofOf (s : Schema) (d : Dependency) (t : Tree) : Type 0 where
+pub record IsProofOf (s : Theory) (d : Dependency) (t : Tree) : Type 0 where
   pub proves : Proves s t d
   pub size : HasSize t MOST_NODES MOST_LEVELS
 
 -- a derivation for a set with attribute a in it, which lies within each implied right side with a in it
-pub record IsSetProof (s : Schema) (x : Attributes) (a : ℕ) (w : PartProof) : Type 0 where
+pub record IsSetProof (s : Theory) (x : Attributes) (a : ℕ) (w : PartProof) : Type 0 where
   pub member : attributes w.part a ≡ true
   pub proves : Proves s (tree_of w.deriv.value) (mvd x (attributes w.part))
   pub size : HasSize (tree_of w.deriv.value) (8 * MOST_ATTRIBUTES + 8) (5 * MOST_ATTRIBUTES + 8)

@@ -5,7 +5,7 @@ ghost use Rattle.attr_sets.specs.Sets.{attributes};
 ghost use Rattle.dep_model.specs.Dependencies.{fd, functional_part};
 ghost use Rattle.dep_model.specs.Deps.{dependency_of};
 ghost use Rattle.dep_model.specs.Implication.{Implies};
-ghost use Rattle.dep_model.specs.Schemas.{width_of, theory_of, universe_of};
+ghost use Rattle.dep_model.specs.Theories.{width_of, theory_of, universe_of};
 ghost use Rattle.dep_model.proofs.DepLemmas.{IfFd};
 ghost use Rattle.fd_closure.specs.FunctionallyClosed.{IsFunctionallyClosed};
 ghost use Rattle.derivation.specs.Trees.{nodes, depth};
@@ -15,7 +15,7 @@ ghost use Rattle.derivation.specs.Chains.{IsFirstOut, IsFunctionalChain};
 ghost use Rattle.basis_proofs.specs.Leads.{IsRightSideOut};
 
 use attr_sets::AttrSet;
-use dep_model::{Dep, OutOfMemory, Schema};
+use dep_model::{Dep, OutOfMemory, Theory};
 use derivation::{Deriv, LeafRule, PairRule, StepRule};
 use std::alloc::Global;
 
@@ -31,21 +31,21 @@ struct Lead {
 /// dependencies alone do not imply `lhs -> rhs`.
 pub fn functional_chain(
     alloc: Global,
-    schema: &Schema,
+    theory: &Theory,
     lhs: AttrSet,
     rhs: AttrSet,
 ) -> Result<Option<Box<Deriv>>, OutOfMemory>
-    requires lhs { IsSubset (attributes lhs) (universe_of schema.now) }
-    requires rhs { IsSubset (attributes rhs) (universe_of schema.now) }
+    requires lhs { IsSubset (attributes lhs) (universe_of theory.now) }
+    requires rhs { IsSubset (attributes rhs) (universe_of theory.now) }
     ensures found_where_implied { IfOk result
-        (λ found. IsSome found ↔ Implies (width_of schema.now) (functional_part (theory_of schema.now))
+        (λ found. IsSome found ↔ Implies (width_of theory.now) (functional_part (theory_of theory.now))
         (fd (attributes lhs) (attributes rhs))) }
     ensures chain { IfOk result
         (λ found. IfSome found
-        (λ b. IsFunctionalChain schema.now (attributes lhs) (attributes rhs) (tree_of b.value))) }
+        (λ b. IsFunctionalChain theory.now (attributes lhs) (attributes rhs) (tree_of b.value))) }
     ensures proves { IfOk result
         (λ found. IfSome found
-        (λ b. Proves schema.now (tree_of b.value) (fd (attributes lhs) (attributes rhs)))) }
+        (λ b. Proves theory.now (tree_of b.value) (fd (attributes lhs) (attributes rhs)))) }
     ensures node_bound { IfOk result (λ found. IfSome found (λ b. nodes
         (tree_of b.value) ≤ 3 * MOST_ATTRIBUTES + 3)) }
     ensures level_bound { IfOk result (λ found. IfSome found (λ b. depth
@@ -54,7 +54,7 @@ pub fn functional_chain(
     let mut closed = lhs;
     let mut chain = Box::new(alloc, Deriv::Leaf(LeafRule::Reflexivity { lhs, rhs: lhs }))?;
     while !rhs.is_subset(closed) {
-        let Some(lead) = first_out(schema, closed) else {
+        let Some(lead) = first_out(theory, closed) else {
             return Ok(None);
         };
         let given = Box::new(alloc, Deriv::Leaf(LeafRule::Given(lead.number)))?;
@@ -73,13 +73,13 @@ pub fn functional_chain(
 }
 
 // The first functional dependency that leads out of a set.
-fn first_out(schema: &Schema, closed: AttrSet) -> Option<Lead>
-    ensures none { IsNone result → IsFunctionallyClosed (functional_part (theory_of schema.now))
+fn first_out(theory: &Theory, closed: AttrSet) -> Option<Lead>
+    ensures none { IsNone result → IsFunctionallyClosed (functional_part (theory_of theory.now))
         (attributes closed) }
     ensures first { IfSome result
-        (λ lead. IsFirstOut schema.now (attributes closed) lead.number (attributes lead.rhs)) }
+        (λ lead. IsFirstOut theory.now (attributes closed) lead.number (attributes lead.rhs)) }
 {
-    for (number, dep) in schema.deps().iter().enumerate() {
+    for (number, dep) in theory.deps().iter().enumerate() {
         if let Some(rhs) = right_side_out(*dep, closed) {
             return Some(Lead {
                 number: number as u16,

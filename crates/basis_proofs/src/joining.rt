@@ -2,7 +2,7 @@ ghost use Rattle.std.specs.Prelude.{◌≡◌, ◌<◌, false, IfOk};
 ghost use Rattle.attr_sets.specs.Attributes.{only, IsSubset};
 ghost use Rattle.attr_sets.specs.Sets.{attributes};
 ghost use Rattle.dep_model.specs.Dependencies.{fd, mvd};
-ghost use Rattle.dep_model.specs.Schemas.{width_of, universe_of, ImpliedBy};
+ghost use Rattle.dep_model.specs.Theories.{width_of, universe_of, ImpliedBy};
 ghost use Rattle.derivation.specs.Derivs.{tree_of};
 ghost use Rattle.basis_proofs.specs.CutProofs.{IsClosedProof};
 ghost use Rattle.basis_proofs.specs.JoinedProofs.{IsProofOf, IsSetProof};
@@ -10,7 +10,7 @@ ghost use Rattle.basis_proofs.specs.JoinedProofs.{IsProofOf, IsSetProof};
 use crate::makers::{mreflexivity, reflexivity};
 use crate::showing::{PartProof, Shown, show_attribute};
 use attr_sets::AttrSet;
-use dep_model::{OutOfMemory, Schema};
+use dep_model::{OutOfMemory, Theory};
 use derivation::{Deriv, StepRule, unite_fd, unite_mvd};
 use std::alloc::Global;
 
@@ -18,20 +18,20 @@ use std::alloc::Global;
 // by one.
 pub fn join_fd(
     alloc: Global,
-    schema: &Schema,
+    theory: &Theory,
     lhs: AttrSet,
     rhs: AttrSet,
 ) -> Result<Box<Deriv>, OutOfMemory>
-    requires lhs { IsSubset (attributes lhs) (universe_of schema.now) }
-    requires rhs { IsSubset (attributes rhs) (universe_of schema.now) }
-    requires implied { ImpliedBy schema.now (fd (attributes lhs) (attributes rhs)) }
-    ensures proof { IfOk result (λ b. IsProofOf schema.now (fd (attributes lhs) (attributes rhs))
+    requires lhs { IsSubset (attributes lhs) (universe_of theory.now) }
+    requires rhs { IsSubset (attributes rhs) (universe_of theory.now) }
+    requires implied { ImpliedBy theory.now (fd (attributes lhs) (attributes rhs)) }
+    ensures proof { IfOk result (λ b. IsProofOf theory.now (fd (attributes lhs) (attributes rhs))
         (tree_of b.value)) }
 {
-    let mut joined = reflexivity(alloc, schema, lhs, lhs.intersection(rhs))?;
+    let mut joined = reflexivity(alloc, theory, lhs, lhs.intersection(rhs))?;
     let mut left = rhs.difference(lhs);
     while let Some(first) = left.first() {
-        let next = show_closed(alloc, schema, lhs, first)?;
+        let next = show_closed(alloc, theory, lhs, first)?;
         let only = AttrSet::single(first);
         let Ok(more) = unite_fd(alloc, lhs, only, joined, next) else {
             return Err(OutOfMemory);
@@ -45,20 +45,20 @@ pub fn join_fd(
 // A derivation of an implied multivalued dependency, which joins the parts of its right side.
 pub fn join_mvd(
     alloc: Global,
-    schema: &Schema,
+    theory: &Theory,
     lhs: AttrSet,
     rhs: AttrSet,
 ) -> Result<Box<Deriv>, OutOfMemory>
-    requires lhs { IsSubset (attributes lhs) (universe_of schema.now) }
-    requires rhs { IsSubset (attributes rhs) (universe_of schema.now) }
-    requires implied { ImpliedBy schema.now (mvd (attributes lhs) (attributes rhs)) }
+    requires lhs { IsSubset (attributes lhs) (universe_of theory.now) }
+    requires rhs { IsSubset (attributes rhs) (universe_of theory.now) }
+    requires implied { ImpliedBy theory.now (mvd (attributes lhs) (attributes rhs)) }
     ensures proof { IfOk result (λ b.
-        IsProofOf schema.now (mvd (attributes lhs) (attributes rhs)) (tree_of b.value)) }
+        IsProofOf theory.now (mvd (attributes lhs) (attributes rhs)) (tree_of b.value)) }
 {
-    let mut joined = mreflexivity(alloc, schema, lhs, lhs.intersection(rhs))?;
+    let mut joined = mreflexivity(alloc, theory, lhs, lhs.intersection(rhs))?;
     let mut left = rhs.difference(lhs);
     while let Some(first) = left.first() {
-        let next = show_set(alloc, schema, lhs, first)?;
+        let next = show_set(alloc, theory, lhs, first)?;
         let done = rhs.difference(left);
         let Ok(more) = unite_mvd(alloc, lhs, done, next.part, joined, next.deriv) else {
             return Err(OutOfMemory);
@@ -72,18 +72,18 @@ pub fn join_mvd(
 // That the left side determines an attribute, where it is implied.
 fn show_closed(
     alloc: Global,
-    schema: &Schema,
+    theory: &Theory,
     lhs: AttrSet,
     attribute: u8,
 ) -> Result<Box<Deriv>, OutOfMemory>
-    requires lhs { IsSubset (attributes lhs) (universe_of schema.now) }
-    requires attribute { attribute < width_of schema.now }
+    requires lhs { IsSubset (attributes lhs) (universe_of theory.now) }
+    requires attribute { attribute < width_of theory.now }
     requires outside { attributes lhs attribute ≡ false }
-    requires implied { ImpliedBy schema.now (fd (attributes lhs) (only attribute)) }
-    ensures proof { IfOk result (λ b. IsClosedProof schema.now (attributes lhs) attribute
+    requires implied { ImpliedBy theory.now (fd (attributes lhs) (only attribute)) }
+    ensures proof { IfOk result (λ b. IsClosedProof theory.now (attributes lhs) attribute
         (tree_of b.value)) }
 {
-    match show_attribute(alloc, schema, lhs, attribute)? {
+    match show_attribute(alloc, theory, lhs, attribute)? {
         Shown::Closed(deriv) => Ok(deriv),
         Shown::Part(_) => unreachable!(),
     }
@@ -93,16 +93,16 @@ fn show_closed(
 // multidetermines it.
 fn show_set(
     alloc: Global,
-    schema: &Schema,
+    theory: &Theory,
     lhs: AttrSet,
     attribute: u8,
 ) -> Result<PartProof, OutOfMemory>
-    requires lhs { IsSubset (attributes lhs) (universe_of schema.now) }
-    requires attribute { attribute < width_of schema.now }
+    requires lhs { IsSubset (attributes lhs) (universe_of theory.now) }
+    requires attribute { attribute < width_of theory.now }
     requires outside { attributes lhs attribute ≡ false }
-    ensures proof { IfOk result (IsSetProof schema.now (attributes lhs) attribute) }
+    ensures proof { IfOk result (IsSetProof theory.now (attributes lhs) attribute) }
 {
-    match show_attribute(alloc, schema, lhs, attribute)? {
+    match show_attribute(alloc, theory, lhs, attribute)? {
         Shown::Closed(deriv) => Ok(PartProof {
             lhs,
             part: AttrSet::single(attribute),

@@ -3,29 +3,29 @@ ghost use Rattle.attr_sets.specs.Attributes.{Attributes, only, difference, IsSub
 ghost use Rattle.attr_sets.specs.Sets.{attributes};
 ghost use Rattle.dep_model.specs.Dependencies.{fd, mvd, left_of, right_of};
 ghost use Rattle.dep_model.specs.Deps.{dependency_of};
-ghost use Rattle.dep_model.specs.Schemas.{width_of, universe_of, deps_of};
+ghost use Rattle.dep_model.specs.Theories.{width_of, universe_of, deps_of};
 ghost use Rattle.derivation.specs.Trees.{leaf, reflexivity};
 ghost use Rattle.derivation.specs.Derivs.{tree_of};
 ghost use Rattle.derivation.specs.Conclusions.{Proves};
 ghost use Rattle.basis_proofs.specs.CutProofs.{HasSize};
 
 use attr_sets::AttrSet;
-use dep_model::{Dep, OutOfMemory, Schema};
+use dep_model::{Dep, OutOfMemory, Theory};
 use derivation::{Deriv, LeafRule, PairRule, StepRule};
 use std::alloc::Global;
 
 // `lhs -> rhs`, by reflexivity.
 pub fn reflexivity(
     alloc: Global,
-    schema: &Schema,
+    theory: &Theory,
     lhs: AttrSet,
     rhs: AttrSet,
 ) -> Result<Box<Deriv>, OutOfMemory>
-    requires lhs { IsSubset (attributes lhs) (universe_of schema.now) }
+    requires lhs { IsSubset (attributes lhs) (universe_of theory.now) }
     requires rhs { IsSubset (attributes rhs) (attributes lhs) }
     ensures tree { IfOk result (λ b. tree_of b.value
         ≡ leaf (reflexivity (attributes lhs) (attributes rhs))) }
-    ensures proves { IfOk result (λ b. Proves schema.now (tree_of b.value) (fd (attributes lhs)
+    ensures proves { IfOk result (λ b. Proves theory.now (tree_of b.value) (fd (attributes lhs)
         (attributes rhs))) }
     ensures size { IfOk result (λ b. HasSize (tree_of b.value) 1 1) }
 {
@@ -35,13 +35,13 @@ pub fn reflexivity(
 // `lhs ->> rhs`, by reflexivity.
 pub fn mreflexivity(
     alloc: Global,
-    schema: &Schema,
+    theory: &Theory,
     lhs: AttrSet,
     rhs: AttrSet,
 ) -> Result<Box<Deriv>, OutOfMemory>
-    requires lhs { IsSubset (attributes lhs) (universe_of schema.now) }
+    requires lhs { IsSubset (attributes lhs) (universe_of theory.now) }
     requires rhs { IsSubset (attributes rhs) (attributes lhs) }
-    ensures proves { IfOk result (λ b. Proves schema.now (tree_of b.value) (mvd (attributes lhs)
+    ensures proves { IfOk result (λ b. Proves theory.now (tree_of b.value) (mvd (attributes lhs)
         (attributes rhs))) }
     ensures size { IfOk result (λ b. HasSize (tree_of b.value) 1 1) }
 {
@@ -51,29 +51,29 @@ pub fn mreflexivity(
 // `lhs ->>` all attributes outside it.
 pub fn complementation(
     alloc: Global,
-    schema: &Schema,
+    theory: &Theory,
     lhs: AttrSet,
 ) -> Result<Box<Deriv>, OutOfMemory>
-    requires lhs { IsSubset (attributes lhs) (universe_of schema.now) }
+    requires lhs { IsSubset (attributes lhs) (universe_of theory.now) }
     ensures proves { IfOk result
-        (λ b. Proves schema.now (tree_of b.value)
-        (mvd (attributes lhs) (difference (universe_of schema.now) (attributes lhs)))) }
+        (λ b. Proves theory.now (tree_of b.value)
+        (mvd (attributes lhs) (difference (universe_of theory.now) (attributes lhs)))) }
     ensures size { IfOk result (λ b. HasSize (tree_of b.value) 2 2) }
 {
-    let from = mreflexivity(alloc, schema, lhs, lhs)?;
+    let from = mreflexivity(alloc, theory, lhs, lhs)?;
     Ok(Box::new(alloc, Deriv::Step(StepRule::Complementation, from))?)
 }
 
 // A given functional dependency.
 pub fn given_fd(
     alloc: Global,
-    schema: &Schema,
+    theory: &Theory,
     k: u16,
     lhs: AttrSet,
     rhs: AttrSet,
 ) -> Result<Box<Deriv>, OutOfMemory>
-    requires given { slice_get (deps_of schema.now) k ≡ Some (Dep.Fd lhs rhs) }
-    ensures proves { IfOk result (λ b. Proves schema.now (tree_of b.value) (fd (attributes lhs)
+    requires given { slice_get (deps_of theory.now) k ≡ Some (Dep.Fd lhs rhs) }
+    ensures proves { IfOk result (λ b. Proves theory.now (tree_of b.value) (fd (attributes lhs)
         (attributes rhs))) }
     ensures size { IfOk result (λ b. HasSize (tree_of b.value) 1 1) }
 {
@@ -83,19 +83,19 @@ pub fn given_fd(
 // A given dependency of either kind, as a multivalued one.
 pub fn given_mvd(
     alloc: Global,
-    schema: &Schema,
+    theory: &Theory,
     k: u16,
     dep: Dep,
 ) -> Result<Box<Deriv>, OutOfMemory>
-    requires given { slice_get (deps_of schema.now) k ≡ Some dep }
+    requires given { slice_get (deps_of theory.now) k ≡ Some dep }
     ensures proves { IfOk result
-        (λ b. Proves schema.now (tree_of b.value)
+        (λ b. Proves theory.now (tree_of b.value)
         (mvd (left_of (dependency_of dep)) (right_of (dependency_of dep)))) }
     ensures size { IfOk result (λ b. HasSize (tree_of b.value) 2 2) }
 {
     match dep {
         Dep::Fd { lhs, rhs } => {
-            let from = given_fd(alloc, schema, k, lhs, rhs)?;
+            let from = given_fd(alloc, theory, k, lhs, rhs)?;
             Ok(Box::new(alloc, Deriv::Step(StepRule::Replication, from))?)
         }
         Dep::Mvd { .. } => Ok(Box::new(alloc, Deriv::Leaf(LeafRule::Given(k)))?),
@@ -105,23 +105,23 @@ pub fn given_mvd(
 // From `X ->> W` and a given `V -> T`, where `V` is apart from `W` and `a` is in `W` and in `T`: `X -> a`.
 pub fn coalesce_with_given(
     alloc: Global,
-    schema: &Schema,
+    theory: &Theory,
     part: Box<Deriv>,
     given: Box<Deriv>,
     rhs: AttrSet,
     attribute: u8,
 ) -> Result<Box<Deriv>, OutOfMemory>
     requires attribute { attribute < 128 }
-    requires rhs { IsSubset (attributes rhs) (universe_of schema.now) }
+    requires rhs { IsSubset (attributes rhs) (universe_of theory.now) }
     requires member { attributes rhs attribute ≡ true }
     ensures proves { (x w v : Attributes) → Disjoint v w → w attribute ≡ true
-        → Proves schema.now (tree_of part.value) (mvd x w)
-        → Proves schema.now (tree_of given.value) (fd v (attributes rhs))
-        → IfOk result (λ b. Proves schema.now (tree_of b.value) (fd x (only attribute))) }
+        → Proves theory.now (tree_of part.value) (mvd x w)
+        → Proves theory.now (tree_of given.value) (fd v (attributes rhs))
+        → IfOk result (λ b. Proves theory.now (tree_of b.value) (fd x (only attribute))) }
     ensures size { (n m : ℕ) → HasSize (tree_of part.value) n m → HasSize (tree_of given.value) 1 1
         → IfOk result (λ b. HasSize (tree_of b.value) (n + 4) (m + 3)) }
 {
-    let only = reflexivity(alloc, schema, rhs, AttrSet::single(attribute))?;
+    let only = reflexivity(alloc, theory, rhs, AttrSet::single(attribute))?;
     let gives = Box::new(alloc, Deriv::Pair(PairRule::Transitivity, given, only))?;
     Ok(Box::new(alloc, Deriv::Pair(PairRule::Coalescence, part, gives))?)
 }

@@ -18,7 +18,8 @@ pub struct Level {
 }
 
 // Leads levels to a set: leaves those whose sets do not lie within it, and goes on from the last by one
-// column after the other.
+// column after the other. Which levels it leaves is a matter of speed alone: where they do not end at the set, the rows
+// are grouped anew.
 pub fn lead_to(
     alloc: Global,
     table: &CodeColumns,

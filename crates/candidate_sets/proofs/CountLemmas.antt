@@ -13,17 +13,9 @@ use Rattle.attr_sets.specs.Attributes.{Attributes, IsSubset, below, difference, 
 use Rattle.attr_sets.proofs.AttributesLemmas.{same_from_within}
 use Rattle.dep_model.specs.Tuples.{Relation}
 use Rattle.dep_model.proofs.ListLemmas.{Contains-head, Contains-later, Contains-map}
+use Rattle.dep_model.proofs.PairLemmas.{first_pairs, later_pairs}
 use Rattle.candidate_sets.specs.Evidence.{AreEvidence, IsEvidence, room}
 use Rattle.candidate_sets.specs.Standing.{AreCandidates, HasMoreCandidates, IsCandidate}
-
--- ---- pairs of a list
-pub later_pairs : {X : Type 0} (R : X → X → Type 0) (x : X) (xs : List X) → AllPairs R (x ∷ xs) → AllPairs R xs
-later_pairs R x xs pairs i j d before l = pairs (suc i) (suc j) d (omega (arith, before)) (omega (arith, l))
-
-pub first_pairs : {X : Type 0} (R : X → X → Type 0) (x : X) (xs : List X) (y : X) → AllPairs R (x ∷ xs)
-    → Contains xs y → R x y
-first_pairs {X} R x xs y pairs listed =
-    subst (λ (z : X). R x z) listed.2 (pairs 0 (suc listed.0) y (omega arith) (omega (arith, listed.1)))
 
 -- ---- different elements of a list
 -- what another list has of them, it has beside any one of them

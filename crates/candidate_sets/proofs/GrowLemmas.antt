@@ -13,7 +13,7 @@ use Rattle.attr_sets.specs.Sets.{attributes}
 use Rattle.attr_sets.proofs.AttributesLemmas.{same_at, same_from_within}
 use Rattle.dep_model.specs.Plans.{schemes_of}
 use Rattle.dep_model.proofs.ListLemmas.{Contains-cases, Contains-head, Contains-later}
-use Rattle.candidate_sets.proofs.CountLemmas.{first_pairs, later_pairs}
+use Rattle.dep_model.proofs.PairLemmas.{first_pairs, later_pairs}
 use Rattle.candidate_sets.specs.Growing.{AddsFresh, AreDifferent, AreFresh, HasManyFresh, HasWithin, IsFreshFrom}
 use Rattle.candidate_sets.specs.declared.refusal.TheConstants.{MOST_CANDIDATES}
 

@@ -8,16 +8,13 @@ use Rattle.attr_sets.specs.Attributes.{Attributes, IsSubset, below, count_below,
 use Rattle.attr_sets.proofs.AttributesLemmas.{count_below-difference_only, count_below-pos, count_below-within, same_from_within, tell_subset}
 use Rattle.dep_model.specs.Tuples.{Relation, AgreeOn, value_at}
 use Rattle.dep_model.specs.Dependencies.{ObeysFd}
-use Rattle.dep_model.proofs.ListLemmas.{Contains-cases, Contains-head, Contains-later}
+use Rattle.dep_model.proofs.ListLemmas.{Contains-nil, Contains-cases, Contains-head, Contains-later}
 use Rattle.dep_model.proofs.TwoRowLemmas.{agree-from}
 use Rattle.fd_discovery.specs.Minimal.{IsMinimalWithin}
 use Rattle.candidate_sets.specs.Evidence.{AreEvidence, IsEvidence}
 use Rattle.candidate_sets.specs.Standing.{AreCandidates, IsCandidate, IsMinimalStanding, Stands}
 
 -- ---- what stands
-pub Contains-nil : {X : Type 0} (x : X) → Contains {X = X} [] x → ⊥
-Contains-nil x listed = omega (arith, listed.1)
-
 -- what rows obey stands against their evidence
 pub obeyed_stands : (n : ℕ) (r : Relation) (es : List Attributes) (x : Attributes) (a : ℕ) → a < n
     → AreEvidence n r es → ObeysFd x (only a) r → Stands es a x

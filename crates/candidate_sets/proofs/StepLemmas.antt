@@ -6,10 +6,10 @@ use Rattle.std.proofs.lemmas.Bool.Decides.{nat_tests}
 use Rattle.std.proofs.lemmas.List.Elements.{All-contains, All-cons, All-nil, All-weaker}
 use Rattle.attr_sets.specs.Attributes.{Attributes, IsSubset, below, none, only, union}
 use Rattle.attr_sets.proofs.AttributesLemmas.{count_below-none, count_below-within, same_at, same_from_within, tell_subset}
-use Rattle.dep_model.proofs.ListLemmas.{Contains-head}
+use Rattle.dep_model.proofs.ListLemmas.{Contains-nil, Contains-head}
 use Rattle.candidate_sets.specs.Standing.{AreCandidates, IsCandidate, Stands}
 use Rattle.candidate_sets.specs.Steps.{IsGrown, IsHit, IsNotHit, IsNew, IsCandidateStep}
-use Rattle.candidate_sets.proofs.StandingLemmas.{Contains-nil, candidate_alone, candidate_within, stands_larger, stands_less, stands_more}
+use Rattle.candidate_sets.proofs.StandingLemmas.{candidate_alone, candidate_within, stands_larger, stands_less, stands_more}
 
 -- ---- no evidence, and evidence with the right side
 pub none_candidate : (n most a : ℕ) → IsCandidate n most [] a none

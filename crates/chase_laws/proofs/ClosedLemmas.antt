@@ -10,18 +10,14 @@ use Rattle.std.proofs.lemmas.Option.{slice_get_within}
 use Rattle.std.specs.List.{AllZip}
 use Rattle.std.specs.Prelude.{Contains, decimal}
 use Rattle.attr_sets.specs.Attributes.{Attributes, below, union, difference}
-use Rattle.dep_model.specs.declared.column_type.ColumnType.{ColumnType}
-use Rattle.dep_model.specs.declared.column_type.ColumnType.TheVariants.{Integer}
 use Rattle.dep_model.specs.Tuples.{Tuple, Relation, value_at, AgreeOn}
 use Rattle.dep_model.specs.Dependencies.{Dependency, fd, mvd, Obeys}
 use Rattle.dep_model.specs.Implication.{IsLegal}
 use Rattle.dep_model.specs.Projections.{members_below, project_tuple, projection, projections, IsLossless}
 use Rattle.dep_model.specs.TwoTuples.{all_zeros}
-use Rattle.dep_model.specs.Integers.{IsIntegerText}
-use Rattle.dep_model.specs.Columns.{IsTyped}
 use Rattle.dep_model.proofs.ListLemmas.{map-member, Contains-map, Contains-head, Contains-later}
 use Rattle.dep_model.proofs.TwoTupleLemmas.{length-all_zeros, value_at-all_zeros}
-use Rattle.dep_model.proofs.NumeralLemmas.{decimal_zero, decimal_integer}
+use Rattle.dep_model.proofs.TwoTupleLemmas.{decimal_zero}
 use Rattle.chase_laws.specs.Tableaux.{SymbolRow, Tableau, symbol_at, SymbolsAgree, distinguished_row}
 use Rattle.chase_laws.specs.Steps.{exchange_rows, IsClosed, HasNoFunctionalStep}
 use Rattle.chase_laws.specs.Rounds.{ReachesTableau}
@@ -161,12 +157,3 @@ closed_gaining n ds plan s within_limit reached closed lacks =
 
 pub gaining_lossy : (n : ℕ) (ds : List Dependency) (plan : List Attributes) (r : Relation) → IsGaining n ds plan r → IsLossless n ds plan → ⊥
 gaining_lossy n ds plan r gaining lossless = gaining.gained (lossless.gains_none r gaining.legal (all_zeros n) gaining.joined)
-
--- ---- columns of either type
-
-pub reached_typed : (n : ℕ) (columns : List ColumnType) (ds : List Dependency) (plan : List Attributes) (s : Tableau) → length columns ≡ n → length plan < 2 ^ 32 → ReachesTableau n ds plan s → IsTyped columns (texts_of s)
-reached_typed n columns ds plan s one_each within_limit reached i d l k is_integer =
-    let p = map-member (map decimal) s (get_or (texts_of s) i d) (Contains-get_or (texts_of s) i d l) in
-    let low : k < n = omega (arith, slice_get_within columns k Integer is_integer, one_each) in
-    let value : value_at (map decimal p.0) k ≡ decimal (symbol_at p.0 k) = value_at-texts p.0 k (omega (arith, low, reached-over n ds plan s reached p.0 p.1)) in
-    subst (λ (t : Tuple). IsIntegerText (value_at t k)) p.2 (subst IsIntegerText (sym value) (decimal_integer (symbol_at p.0 k) (omega (arith, within_limit, reached-most n ds plan s reached p.0 p.1 k))))

@@ -9,7 +9,7 @@ use Rattle.std.proofs.lemmas.Slice.Eq.{slice_eq-Decides}
 use Rattle.std.specs.Prelude.{Contains, nat_eq}
 use Rattle.std.specs.Cmp.Lexicographic.{pointwise}
 use Rattle.attr_sets.specs.Attributes.{Attributes}
-use Rattle.dep_model.proofs.ListLemmas.{Contains-map, map-member, Contains-head, Contains-later}
+use Rattle.dep_model.proofs.ListLemmas.{Contains-nil, Contains-map, map-member, Contains-head, Contains-later}
 use Rattle.chase_laws.specs.Tableaux.{SymbolRow, Tableau, SameTableau, symbol_at, distinguished_row, scheme_row}
 use Rattle.chase_laws.specs.Steps.{replace_in_row, replace_symbol, exchange_rows}
 
@@ -127,9 +127,6 @@ cons_cases_at x xs y (suc k) l e = let low : k < length xs = omega arith in inr 
 
 pub cons_cases : {X : Type 0} (x : X) (xs : List X) (y : X) → Contains (x ∷ xs) y → (x ≡ y) ⊎ Contains xs y
 cons_cases x xs y h = cons_cases_at x xs y h.0 h.1 h.2
-
-Contains-nil : {X : Type 0} (y : X) → Contains [] y → ⊥
-Contains-nil y h = absurd (omega (arith, h.1))
 
 -- whether two rows are equal, and whether a tableau has a row
 pub rows_tell : (p q : SymbolRow) → (p ≡ q) ⊎ (p ≡ q → ⊥)

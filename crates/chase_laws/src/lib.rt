@@ -10,10 +10,8 @@
 
 ghost use Rattle.std.specs.Prelude.{◌≡◌, ◌<◌, ◌≤◌, ◌^◌, ℕ, List, length, Contains};
 ghost use Rattle.attr_sets.specs.Attributes.{Attributes};
-ghost use Rattle.dep_model.specs.declared.column_type.ColumnType.{ColumnType};
 ghost use Rattle.dep_model.specs.Dependencies.{Dependency, mvd};
 ghost use Rattle.dep_model.specs.Tuples.{Relation};
-ghost use Rattle.dep_model.specs.Columns.{IsTyped};
 ghost use Rattle.dep_model.specs.Projections.{Covers, IsLossless};
 ghost use Rattle.chase_laws.specs.Tableaux.{Tableau, SameTableau, IsTableauOver, distinguished_row};
 ghost use Rattle.chase_laws.specs.Steps.{IsClosed};
@@ -77,12 +75,4 @@ pub fn closed_tableau_gains()
 pub fn gaining_is_lossy()
     ensures law { (n : ℕ) (ds : List Dependency) (plan : List Attributes) (s : Tableau)
         → IsGaining n ds plan (texts_of s) → IsLossless n ds plan → ⊥ }
-{}
-
-/// The texts of a tableau that is reached fit columns of every type.
-pub fn texts_are_typed()
-    ensures law { (n : ℕ) (columns : List ColumnType) (ds : List Dependency) (plan : List Attributes)
-        (s : Tableau)
-        → length columns ≡ n → length plan < 2 ^ 32 → ReachesTableau n ds plan s
-        → IsTyped columns (texts_of s) }
 {}

@@ -3,11 +3,11 @@ ghost use Rattle.attr_sets.specs.Attributes.{difference, IsEmpty, IsSubset};
 ghost use Rattle.attr_sets.specs.Sets.{attributes};
 ghost use Rattle.dep_model.specs.Dependencies.{right_of};
 ghost use Rattle.dep_model.specs.Deps.{dependency_of};
-ghost use Rattle.dep_model.specs.Schemas.{theory_of, universe_of};
+ghost use Rattle.dep_model.specs.Theories.{theory_of, universe_of};
 ghost use Rattle.closure_steps.specs.Steps.{Adds, IsClosureStep, AreClosureSteps, reached, closure_step_value, closure_step_values};
 
 use attr_sets::AttrSet;
-use dep_model::{Dep, OutOfMemory, Schema};
+use dep_model::{Dep, OutOfMemory, Theory};
 use std::alloc::Global;
 
 /// A step of a closure: dependency `dep` of the schema, from 0, adds these attributes.
@@ -28,19 +28,19 @@ pub struct ClosureSteps {
 /// is one, the first of the file that adds something to what is there by then.
 pub fn closure_steps(
     alloc: Global,
-    schema: &Schema,
+    theory: &Theory,
     set: AttrSet,
 ) -> Result<ClosureSteps, OutOfMemory>
     ensures steps { IfOk result (λ found.
-        AreClosureSteps (theory_of schema.now) (attributes set) (closure_step_values found.steps.items)) }
+        AreClosureSteps (theory_of theory.now) (attributes set) (closure_step_values found.steps.items)) }
     ensures reached { IfOk result (λ found.
         attributes found.reached ≡ reached (attributes set) (closure_step_values found.steps.items)) }
     ensures within { IfOk result (λ found.
-        All (λ step. IsSubset (attributes step.added) (universe_of schema.now)) found.steps.items) }
+        All (λ step. IsSubset (attributes step.added) (universe_of theory.now)) found.steps.items) }
 {
     let mut steps = Vec::new(alloc);
     let mut reached = set;
-    while let Some(step) = next_step(schema, reached) {
+    while let Some(step) = next_step(theory, reached) {
         steps.push(step)?;
         reached = reached.union(step.added);
     }
@@ -48,15 +48,15 @@ pub fn closure_steps(
 }
 
 // The first functional dependency of a schema that adds something to a set, with what it adds.
-fn next_step(schema: &Schema, closed: AttrSet) -> Option<ClosureStep>
+fn next_step(theory: &Theory, closed: AttrSet) -> Option<ClosureStep>
     ensures none { IsNone result
-        → All (λ d. Adds (attributes closed) d → ⊥) (theory_of schema.now) }
+        → All (λ d. Adds (attributes closed) d → ⊥) (theory_of theory.now) }
     ensures step { IfSome result
-        (λ step. IsClosureStep (theory_of schema.now) (attributes closed) (closure_step_value step)) }
+        (λ step. IsClosureStep (theory_of theory.now) (attributes closed) (closure_step_value step)) }
     ensures within { IfSome result
-        (λ step. IsSubset (attributes step.added) (universe_of schema.now)) }
+        (λ step. IsSubset (attributes step.added) (universe_of theory.now)) }
 {
-    for (k, dep) in schema.deps().iter().enumerate() {
+    for (k, dep) in theory.deps().iter().enumerate() {
         let added = added_by(*dep, closed);
         if !added.is_empty() {
             return Some(ClosureStep {

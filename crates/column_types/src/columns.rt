@@ -4,8 +4,8 @@ ghost use Rattle.std.specs.Prelude.{◌<◌, ◌↔◌, All, length, IsTrue};
 ghost use Rattle.column_types.specs.FirstTypes.{AllEmpty, AllHave, HasEmpty};
 
 use column_values::fits_column;
-use dep_model::ColumnType;
 use row_store::Rows;
+use schema_model::ColumnType;
 
 // Whether all values of a column are of a type, but for empty ones.
 pub fn all_have(rows: &Rows, position: usize, column: &ColumnType) -> bool

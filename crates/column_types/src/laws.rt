@@ -5,7 +5,7 @@ ghost use Rattle.std.specs.Prelude.{◌≡◌, ◌<◌, ℕ, Bool, true, length}
 ghost use Rattle.column_types.specs.FirstTypes.{HasEmpty, IsTypeOf, value_in};
 ghost use Rattle.column_values.specs.Values.{FitsColumn};
 ghost use Rattle.dep_model.specs.Tuples.{Relation};
-ghost use Rattle.dep_model.specs.declared.column_type.ColumnType.{ColumnType};
+ghost use Rattle.schema_model.specs.declared.column_type.ColumnType.{ColumnType};
 
 /// A column has one type; so a decimal one has one scale.
 pub fn column_has_one_type()

@@ -4,14 +4,15 @@ ghost use Rattle.std.specs.Prelude.{◌≡◌, ◌≤◌, All, length, IsTrue, I
 ghost use Rattle.attr_sets.specs.Sets.{attributes};
 ghost use Rattle.attr_sets.specs.declared.set.TheConstants.{MOST_ATTRIBUTES};
 ghost use Rattle.column_types.specs.FirstTypes.{AreTypesOf, HaveEmpty};
-ghost use Rattle.dep_model.specs.Columns.{is_column_type};
+ghost use Rattle.schema_model.specs.Columns.{is_column_type};
 ghost use Rattle.dep_model.specs.Tuples.{IsOver};
 
 use crate::columns::has_empty;
 use crate::typing::type_of_column;
 use attr_sets::{AttrSet, MOST_ATTRIBUTES};
-use dep_model::{ColumnType, OutOfMemory};
+use dep_model::OutOfMemory;
 use row_store::Rows;
+use schema_model::ColumnType;
 use std::alloc::Global;
 
 /// The type of each column of rows of this width.

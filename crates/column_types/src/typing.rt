@@ -1,10 +1,10 @@
 ghost use Rattle.std.specs.Prelude.{◌<◌, All, length, IsTrue};
 ghost use Rattle.column_types.specs.FirstTypes.{IsTypeOf};
-ghost use Rattle.dep_model.specs.Columns.{is_column_type};
+ghost use Rattle.schema_model.specs.Columns.{is_column_type};
 
 use crate::columns::{all_empty, all_have};
-use dep_model::ColumnType;
 use row_store::Rows;
+use schema_model::ColumnType;
 
 /// The types that are tried for a column of values, in this order.
 pub const TRIED: [ColumnType; 15] = [

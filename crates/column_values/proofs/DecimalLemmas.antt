@@ -13,8 +13,9 @@ use Rattle.std.proofs.lemmas.Fmt.{decimal_injective, decimal-digits_value, decim
 use Rattle.std.proofs.lemmas.List.{replicate-append-replicate}
 use Rattle.std.proofs.lemmas.List.Sums.{AllPass-from_list_all}
 use Rattle.std.proofs.lemmas.Str.Parse.{digits_value_short}
-use Rattle.dep_model.specs.declared.column_type.TheConstants.{MOST_SCALE}
-use Rattle.dep_model.proofs.NumeralLemmas.{decimal_zero, decimal_numeral_model}
+use Rattle.schema_model.specs.declared.column_type.TheConstants.{MOST_SCALE}
+use Rattle.dep_model.proofs.TwoTupleLemmas.{decimal_zero}
+use Rattle.schema_model.proofs.NumeralLemmas.{decimal_numeral_model}
 use Rattle.column_values.specs.Digits.{in_digits}
 use Rattle.column_values.specs.Decimals.{point_and_digits, decimal_text, IsWhole, IsUnsignedDecimal}
 use Rattle.column_values.proofs.DigitLemmas.{SameParts, same_cut, length-in_digits, in_digits-injective}

@@ -9,11 +9,11 @@ use Rattle.std.proofs.lemmas.Bool.{and_parts, and_from}
 use Rattle.std.proofs.lemmas.Bool.Decides.{nat_tests}
 use Rattle.std.proofs.lemmas.Fmt.{decimal_injective}
 use Rattle.std.proofs.lemmas.List.{append_cancel_left, append_cancel_right}
-use Rattle.dep_model.proofs.NumeralLemmas.{decimal_integer}
-use Rattle.dep_model.specs.declared.column_type.ColumnType.{ColumnType}
-use Rattle.dep_model.specs.declared.column_type.ColumnType.TheVariants.{Text, Integer, Date, Timestamp, Decimal, Uuid, Other}
-use Rattle.dep_model.specs.declared.column_type.TheConstants.{MOST_SCALE}
-use Rattle.dep_model.specs.Columns.{is_column_type}
+use Rattle.schema_model.proofs.NumeralLemmas.{decimal_integer}
+use Rattle.schema_model.specs.declared.column_type.ColumnType.{ColumnType}
+use Rattle.schema_model.specs.declared.column_type.ColumnType.TheVariants.{Text, Integer, Date, Timestamp, Decimal, Uuid, Other}
+use Rattle.schema_model.specs.declared.column_type.TheConstants.{MOST_SCALE}
+use Rattle.schema_model.specs.Columns.{is_column_type}
 use Rattle.column_values.specs.Digits.{in_digits, three_in_digits}
 use Rattle.column_values.specs.Calendar.{days_in, IsDateText, IsTimestampText}
 use Rattle.column_values.specs.Decimals.{point_and_digits, IsUnsignedDecimal}

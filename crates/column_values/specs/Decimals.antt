@@ -1,7 +1,7 @@
 -- The texts of decimal numbers: for the values of columns.
 use Rattle.std.specs.Prelude.{◌≡◌, ◌≢◌, ℕ, zero, suc, ◌-◌, ◌^◌, ◌<◌, ◌≤◌, ◌⊎◌, List, [], ◌∷◌, ◌++◌}
 use Rattle.std.specs.Fmt.{decimal}
-use Rattle.dep_model.specs.declared.column_type.TheConstants.{MOST_SCALE}
+use Rattle.schema_model.specs.declared.column_type.TheConstants.{MOST_SCALE}
 use Rattle.column_values.specs.Digits.{in_digits}
 
 -- a point and so many digits, and nothing where there are none

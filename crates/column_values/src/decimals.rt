@@ -6,7 +6,7 @@ ghost use Rattle.column_values.specs.Digits.{in_digits};
 ghost use Rattle.column_values.specs.Decimals.{decimal_text, point_and_digits, IsDecimalText, IsUnsignedDecimal, IsWhole};
 
 use crate::digits::{MOST_DIGITS, after_byte, are_digits, cut, number_of};
-use dep_model::MOST_SCALE;
+use schema_model::MOST_SCALE;
 
 // Whether bytes are the text of a decimal number of this scale.
 pub fn is_decimal_text(scale: u8, bytes: &[u8]) -> bool

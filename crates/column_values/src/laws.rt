@@ -2,8 +2,8 @@
 //! the gate asks for its proof.
 
 ghost use Rattle.std.specs.Prelude.{◌≡◌, ℕ, ◌^◌, ◌<◌, IsTrue};
-ghost use Rattle.dep_model.specs.declared.column_type.ColumnType.{ColumnType};
-ghost use Rattle.dep_model.specs.Columns.{is_column_type};
+ghost use Rattle.schema_model.specs.declared.column_type.ColumnType.{ColumnType};
+ghost use Rattle.schema_model.specs.Columns.{is_column_type};
 ghost use Rattle.column_values.specs.declared.making.TheConstants.{MADE_UP_VALUES};
 ghost use Rattle.column_values.specs.Calendar.{IsDay, date_text};
 ghost use Rattle.column_values.specs.Decimals.{decimal_text};

@@ -6,8 +6,9 @@ ghost use Rattle.column_values.specs.Decimals.{point_and_digits};
 ghost use Rattle.column_values.specs.MadeUp.{made_up, made_up_date, made_up_uuid};
 
 use crate::digits::add_in_digits;
-use dep_model::{ColumnType, OutOfMemory};
+use dep_model::OutOfMemory;
 use itoa::Buffer;
+use schema_model::ColumnType;
 
 /// How many different values there are of each type at least, one for each number from 0 on.
 pub const MADE_UP_VALUES: u32 = 1_000_000;

@@ -4,7 +4,7 @@ ghost use Rattle.column_values.specs.Values.{IsValueOf, FitsColumn};
 use crate::calendar::{is_date_text, is_timestamp_text};
 use crate::decimals::is_decimal_text;
 use crate::uuids::is_uuid_text;
-use dep_model::{ColumnType, is_integer_text};
+use schema_model::{ColumnType, is_integer_text};
 
 /// Whether bytes are a value of a type.
 pub fn is_value_of(column: &ColumnType, bytes: &[u8]) -> bool

@@ -10,9 +10,9 @@ use Rattle.attr_sets.specs.Attributes.{below}
 use Rattle.attr_sets.specs.declared.set.TheConstants.{MOST_ATTRIBUTES}
 use Rattle.dep_model.specs.Dependencies.{Dependency, fd, mvd, IsWithin}
 use Rattle.dep_model.specs.Deps.{dependency_of, IsDepWithin}
-use Rattle.dep_model.specs.Schemas.{deps_of, width_of, universe_of, theory_of}
+use Rattle.dep_model.specs.Theories.{deps_of, width_of, universe_of, theory_of}
 use Rattle.dep_model.specs.declared.dep.Dep.{Dep}
-use Rattle.dep_model.specs.declared.schema.Schema.{Schema}
+use Rattle.dep_model.specs.Theories.{Theory}
 use Rattle.dep_model.proofs.DepLemmas.{dependencies_all-from}
 use Rattle.cover_accounts.specs.declared.diagnostic.CoverDiagnostic.{CoverDiagnostic}
 use Rattle.cover_accounts.specs.declared.diagnostic.CoverDiagnostic.TheVariants.{SeveralOnRight, NotNeeded, Follows}
@@ -148,19 +148,19 @@ gather_done n ds k found past before = record {
 }
 
 -- ---- the dependency at a position of a schema
-pub schema_within : (s : Schema) → All (IsWithin (below (width_of s))) (theory_of s)
+pub schema_within : (s : Theory) → All (IsWithin (below (width_of s))) (theory_of s)
 schema_within s = dependencies_all-from (IsWithin (below (width_of s))) (deps_of s) s.valid.deps_within
 
-pub schema_narrow : (s : Schema) → width_of s ≤ MOST_ATTRIBUTES
-schema_narrow s = s.valid.names_within_limit
+pub schema_narrow : (s : Theory) → width_of s ≤ MOST_ATTRIBUTES
+schema_narrow s = s.valid.within_limit
 
-pub read_at : (s : Schema) (deps : List Dep) (k : ℕ) (e : Dep) → deps ≡ deps_of s → k < length (deps_of s) → slice_get (theory_of s) k ≡ Some (dependency_of (get_or deps k e))
+pub read_at : (s : Theory) (deps : List Dep) (k : ℕ) (e : Dep) → deps ≡ deps_of s → k < length (deps_of s) → slice_get (theory_of s) k ≡ Some (dependency_of (get_or deps k e))
 read_at s deps k e same short =
     slice_get-map dependency_of (deps_of s) k
     ∙ ap (option_map dependency_of) (slice_get-get_or (deps_of s) k e short)
     ∙ ap (λ (ds : List Dep). Some (dependency_of (get_or ds k e))) (sym same)
 
-pub within_at : (s : Schema) (deps : List Dep) (k : ℕ) (e : Dep) → deps ≡ deps_of s → k < length (deps_of s) → IsDepWithin (universe_of s) (get_or deps k e)
+pub within_at : (s : Theory) (deps : List Dep) (k : ℕ) (e : Dep) → deps ≡ deps_of s → k < length (deps_of s) → IsDepWithin (universe_of s) (get_or deps k e)
 within_at s deps k e same short =
     subst (λ (ds : List Dep). IsDepWithin (universe_of s) (get_or ds k e)) (sym same) (s.valid.deps_within k e short)
 

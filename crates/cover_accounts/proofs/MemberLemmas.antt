@@ -1,18 +1,16 @@
 -- Members with shortened left sides: one more, that they are those of the fixed cover, and that there is one
 -- list of them.
-use Rattle.std.proofs.Common.{◌≡◌, ℕ, ◌+◌, ◌<◌, suc, zero, List, [], ◌∷◌, ◌++◌, length, map, refl, sym, ◌∙◌, subst, ap, inl, inr, arith}
-use mathlib.Core.Path.{fun_ext}
-use Rattle.std.proofs.lemmas.Bool.{cases_Bool, cases_lt, true≢false}
-use Rattle.std.proofs.lemmas.Bool.Decides.{nat_tests}
+use Rattle.std.proofs.Common.{◌≡◌, ℕ, List, [], ◌∷◌, ◌++◌, length, map, refl, sym, ◌∙◌, subst, ap, arith}
 use Rattle.std.proofs.lemmas.List.{map_push}
 use Rattle.std.proofs.lemmas.List.Elements.{All-nil, All-head, All-tail, All-push}
 use Rattle.std.specs.Prelude.{All}
 use Rattle.std.specs.List.{AllZip}
 use Rattle.attr_sets.specs.Attributes.{Attributes}
+use Rattle.attr_sets.proofs.NarrowingLemmas.{one_narrowed_ascending}
 use Rattle.dep_model.proofs.ListLemmas.{cons_parts}
 use Rattle.dep_model.specs.Dependencies.{Dependency, fd, functional_part, left_of, right_of}
 use Rattle.dep_model.specs.Implication.{Implies}
-use Rattle.min_cover.specs.Members.{kept_beside, IsLeftReduced, IsLeftReducedDependency}
+use Rattle.min_cover.specs.Members.{IsLeftReduced, IsLeftReducedDependency}
 use Rattle.min_cover.specs.Covers.{IsFixedWholeCover, IsThinned}
 use Rattle.cover_accounts.specs.Steps.{Placed, Shortened, AreShortMembers, AreCoverSteps, IsThinnedInto, without_positions, whole_of, short_of}
 use Rattle.cover_accounts.proofs.PlaceLemmas.{all_members_alone, multivalued_alone}
@@ -55,36 +53,7 @@ steps_cover n ds members gone are = record {
 }
 
 -- ---- one list
-beside_same : (left one other : Attributes) (i : ℕ) → ((k : ℕ) → k < i → one k ≡ other k) → kept_beside left one i ≡ kept_beside left other i
-beside_same left one other i earlier = fun_ext (λ (k : ℕ). elim (cases_lt k i) [
-  | inl before ↦ grind (arith, nat_tests, earlier k before)
-  | inr after ↦ grind (arith, nat_tests, after)
-])
-
-pub shorts_agree : (n : ℕ) (ds : List Dependency) (x y one other : Attributes) → IsLeftReduced n ds x y one → IsLeftReduced n ds x y other
-    → (m i : ℕ) → i < m → one i ≡ other i
-shorts_agree n ds x y one other first second zero i l = absurd (omega (arith, l))
-shorts_agree n ds x y one other first second (suc m) i l = elim (cases_Bool (x i)) [
-  | inl member ↦
-      let beside = beside_same x one other i (λ k before. shorts_agree n ds x y one other first second m k (omega (arith, before, l))) in
-      let P : Attributes → Type 0 = λ left. Implies n (functional_part ds) (fd left y) in
-      elim (cases_Bool (one i)) [
-        | inr out ↦ out ∙ sym ((second.left_out i member).1 (subst P beside ((first.left_out i member).0 out)))
-        | inl here ↦ elim (cases_Bool (other i)) [
-          | inl there ↦ here ∙ sym there
-          | inr gone ↦ (first.left_out i member).1 (subst P (sym beside) ((second.left_out i member).0 gone)) ∙ sym gone
-        ]
-      ]
-  | inr outside ↦ elim (cases_Bool (one i)) [
-    | inl here ↦ absurd (true≢false (sym (first.within i here) ∙ outside))
-    | inr out ↦ elim (cases_Bool (other i)) [
-      | inl there ↦ absurd (true≢false (sym (second.within i there) ∙ outside))
-      | inr gone ↦ out ∙ sym gone
-    ]
-  ]
-]
-
--- what a member was settles it
+-- what a member was decides what it is
 module _ (n : ℕ) (ds : List Dependency) (m o : Shortened) (same : whole_of m ≡ whole_of o) (m_is : IsLeftReduced n ds m.whole m.right m.left)
     (o_is : IsLeftReduced n ds o.whole o.right o.left) where
   wholes : m.whole ≡ o.whole
@@ -97,7 +66,7 @@ module _ (n : ℕ) (ds : List Dependency) (m o : Shortened) (same : whole_of m �
   lefts =
       let moved : IsLeftReduced n ds o.whole o.right m.left =
       subst (λ (y : Attributes). IsLeftReduced n ds o.whole y m.left) rights (subst (λ (x : Attributes). IsLeftReduced n ds x m.right m.left) wholes m_is) in
-      fun_ext (λ (i : ℕ). shorts_agree n ds o.whole o.right m.left o.left moved o_is (i + 1) i (omega arith))
+      one_narrowed_ascending (λ left. Implies n (functional_part ds) (fd left o.right)) o.whole o.whole m.left o.left moved o_is
 
   one_short : m ≡ o
   one_short =

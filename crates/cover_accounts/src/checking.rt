@@ -4,7 +4,7 @@ ghost use Rattle.attr_sets.specs.Attributes.{below};
 ghost use Rattle.attr_sets.specs.declared.set.TheConstants.{MOST_ATTRIBUTES};
 ghost use Rattle.dep_model.specs.Dependencies.{Dependency};
 ghost use Rattle.dep_model.specs.Deps.{dependency_of, dependencies_of, IsDepWithin};
-ghost use Rattle.dep_model.specs.Schemas.{deps_of, width_of, universe_of, theory_of};
+ghost use Rattle.dep_model.specs.Theories.{deps_of, width_of, universe_of, theory_of};
 ghost use Rattle.cover_accounts.specs.CoverDiagnostics.{AreCoverDiagnostics, FollowsFrom, HasSeveralOnRight, IsNotNeeded, NamesAttribute};
 ghost use Rattle.cover_accounts.specs.CheckGathering.{AreCoverDiagnosticsBefore};
 
@@ -12,40 +12,40 @@ use crate::diagnostic::CoverDiagnostic;
 use crate::others::dependency_and_others;
 use attr_sets::MOST_ATTRIBUTES;
 use dep_basis::is_implied_by;
-use dep_model::{Dep, OutOfMemory, Schema};
+use dep_model::{Dep, OutOfMemory, Theory};
 use fd_closure::follows;
 use std::alloc::Global;
 
 /// What keeps the dependencies of a schema from being a minimal cover, in the order of the file; of one
 /// dependency first its right side, then its left side, ascending, then whether it follows from the
 /// others. Multivalued ones are asked the last alone.
-pub fn diagnostics(alloc: Global, schema: &Schema) -> Result<Vec<CoverDiagnostic>, OutOfMemory>
+pub fn diagnostics(alloc: Global, theory: &Theory) -> Result<Vec<CoverDiagnostic>, OutOfMemory>
     ensures diagnostics { IfOk result (λ found.
-        AreCoverDiagnostics (width_of schema.now) (theory_of schema.now) found.items) }
+        AreCoverDiagnostics (width_of theory.now) (theory_of theory.now) found.items) }
     ensures attributes { IfOk result (λ found. All NamesAttribute found.items) }
 {
     let mut found = Vec::new(alloc);
-    for k in 0..schema.deps().len() {
-        add_several_on_right(schema, k, &mut found)?;
-        add_not_needed(schema, k, &mut found)?;
-        add_following(alloc, schema, k, &mut found)?;
+    for k in 0..theory.deps().len() {
+        add_several_on_right(theory, k, &mut found)?;
+        add_not_needed(theory, k, &mut found)?;
+        add_following(alloc, theory, k, &mut found)?;
     }
     Ok(found)
 }
 
 // Adds the diagnostic that a dependency has more than one attribute on the right.
 fn add_several_on_right(
-    schema: &Schema,
+    theory: &Theory,
     k: usize,
     found: &mut Vec<CoverDiagnostic>,
 ) -> Result<(), OutOfMemory>
-    requires position { k < length (deps_of schema.now) }
-    requires before { AreCoverDiagnosticsBefore (width_of schema.now) (theory_of schema.now) k 0
+    requires position { k < length (deps_of theory.now) }
+    requires before { AreCoverDiagnosticsBefore (width_of theory.now) (theory_of theory.now) k 0
         found.old.items }
-    ensures before { IfOk result (λ _. AreCoverDiagnosticsBefore (width_of schema.now) (theory_of schema.now)
+    ensures before { IfOk result (λ _. AreCoverDiagnosticsBefore (width_of theory.now) (theory_of theory.now)
         k 1 found.new.items) }
 {
-    if !has_several_on_right(schema.deps()[k]) {
+    if !has_several_on_right(theory.deps()[k]) {
         return Ok(());
     }
     found.push(CoverDiagnostic::SeveralOnRight { dep: k as u16 })?;
@@ -54,19 +54,19 @@ fn add_several_on_right(
 
 // Adds the diagnostics that attributes are not needed on the left of a dependency.
 fn add_not_needed(
-    schema: &Schema,
+    theory: &Theory,
     k: usize,
     found: &mut Vec<CoverDiagnostic>,
 ) -> Result<(), OutOfMemory>
-    requires position { k < length (deps_of schema.now) }
-    requires before { AreCoverDiagnosticsBefore (width_of schema.now) (theory_of schema.now) k 1
+    requires position { k < length (deps_of theory.now) }
+    requires before { AreCoverDiagnosticsBefore (width_of theory.now) (theory_of theory.now) k 1
         found.old.items }
-    ensures before { IfOk result (λ _. AreCoverDiagnosticsBefore (width_of schema.now) (theory_of schema.now)
+    ensures before { IfOk result (λ _. AreCoverDiagnosticsBefore (width_of theory.now) (theory_of theory.now)
         k (1 + MOST_ATTRIBUTES) found.new.items) }
 {
-    let dep = schema.deps()[k];
+    let dep = theory.deps()[k];
     for attribute in 0..MOST_ATTRIBUTES {
-        if is_not_needed(schema, dep, attribute) {
+        if is_not_needed(theory, dep, attribute) {
             found.push(CoverDiagnostic::NotNeeded {
                 dep: k as u16,
                 attribute,
@@ -79,17 +79,17 @@ fn add_not_needed(
 // Adds the diagnostic that a dependency follows from the others.
 fn add_following(
     alloc: Global,
-    schema: &Schema,
+    theory: &Theory,
     k: usize,
     found: &mut Vec<CoverDiagnostic>,
 ) -> Result<(), OutOfMemory>
-    requires position { k < length (deps_of schema.now) }
-    requires before { AreCoverDiagnosticsBefore (width_of schema.now) (theory_of schema.now) k
+    requires position { k < length (deps_of theory.now) }
+    requires before { AreCoverDiagnosticsBefore (width_of theory.now) (theory_of theory.now) k
         (1 + MOST_ATTRIBUTES) found.old.items }
-    ensures before { IfOk result (λ _. AreCoverDiagnosticsBefore (width_of schema.now) (theory_of schema.now)
+    ensures before { IfOk result (λ _. AreCoverDiagnosticsBefore (width_of theory.now) (theory_of theory.now)
         (k + 1) 0 found.new.items) }
 {
-    if !follows_from_others(alloc, schema, k)? {
+    if !follows_from_others(alloc, theory, k)? {
         return Ok(());
     }
     found.push(CoverDiagnostic::Follows { dep: k as u16 })?;
@@ -107,29 +107,29 @@ fn has_several_on_right(dep: Dep) -> bool
 }
 
 // Whether an attribute is not needed on the left of a functional dependency.
-fn is_not_needed(schema: &Schema, dep: Dep, attribute: u8) -> bool
-    requires within { IsDepWithin (universe_of schema.now) dep }
+fn is_not_needed(theory: &Theory, dep: Dep, attribute: u8) -> bool
+    requires within { IsDepWithin (universe_of theory.now) dep }
     requires attribute { attribute < MOST_ATTRIBUTES }
-    ensures not_needed { IsTrue result ↔ IsNotNeeded (width_of schema.now) (theory_of schema.now)
+    ensures not_needed { IsTrue result ↔ IsNotNeeded (width_of theory.now) (theory_of theory.now)
         (dependency_of dep) attribute }
 {
     match dep {
         Dep::Fd { lhs, rhs } => {
-            lhs.contains(attribute) && follows(schema.deps(), lhs.without(attribute), rhs)
+            lhs.contains(attribute) && follows(theory.deps(), lhs.without(attribute), rhs)
         }
         Dep::Mvd { .. } => false,
     }
 }
 
 // Whether the dependency at a position follows from the others.
-fn follows_from_others(alloc: Global, schema: &Schema, k: usize) -> Result<bool, OutOfMemory>
-    requires position { k < length (deps_of schema.now) }
-    ensures follows { (d : Dependency) → slice_get (theory_of schema.now) k ≡ Some d
+fn follows_from_others(alloc: Global, theory: &Theory, k: usize) -> Result<bool, OutOfMemory>
+    requires position { k < length (deps_of theory.now) }
+    ensures follows { (d : Dependency) → slice_get (theory_of theory.now) k ≡ Some d
         → IfOk result (λ follows. IsTrue follows
-        ↔ FollowsFrom (width_of schema.now) (remove (theory_of schema.now) k) d) }
+        ↔ FollowsFrom (width_of theory.now) (remove (theory_of theory.now) k) d) }
 {
-    let (dep, others) = dependency_and_others(alloc, schema, k)?;
-    Ok(follows_from(&others, schema.width(), dep))
+    let (dep, others) = dependency_and_others(alloc, theory, k)?;
+    Ok(follows_from(&others, theory.width(), dep))
 }
 
 // Whether a functional dependency follows from the functional ones of a list, or a multivalued one from

@@ -3,13 +3,13 @@ ghost use Rattle.std.specs.List.{flat_map};
 ghost use Rattle.attr_sets.specs.Attributes.{IsSubset};
 ghost use Rattle.attr_sets.specs.Sets.{attributes};
 ghost use Rattle.dep_model.specs.Dependencies.{fd};
-ghost use Rattle.dep_model.specs.Schemas.{width_of, theory_of, universe_of};
+ghost use Rattle.dep_model.specs.Theories.{width_of, theory_of, universe_of};
 ghost use Rattle.cover_accounts.specs.Steps.{Placed, AreShortMembers, placed, placed_members, places_of, shortened_list};
 ghost use Rattle.cover_accounts.specs.Gathering.{IsMemberWithin, IsPlacedWithin};
 
 use crate::thinning::PlacedDep;
 use attr_sets::AttrSet;
-use dep_model::{Dep, OutOfMemory, Schema};
+use dep_model::{Dep, OutOfMemory, Theory};
 use min_cover::left_reduced;
 use std::alloc::Global;
 
@@ -26,20 +26,20 @@ pub struct ShortMember {
 // The members of the functional dependencies, in order, each with its left side shortened.
 pub fn short_members(
     alloc: Global,
-    schema: &Schema,
+    theory: &Theory,
     list: &[PlacedDep],
 ) -> Result<Vec<ShortMember>, OutOfMemory>
-    requires within { All (IsPlacedWithin (universe_of schema.now)) list.now }
-    ensures members { IfOk result (λ members. AreShortMembers (width_of schema.now)
-        (theory_of schema.now)
-        (flat_map (placed_members (width_of schema.now)) (places_of list.now))
+    requires within { All (IsPlacedWithin (universe_of theory.now)) list.now }
+    ensures members { IfOk result (λ members. AreShortMembers (width_of theory.now)
+        (theory_of theory.now)
+        (flat_map (placed_members (width_of theory.now)) (places_of list.now))
         (shortened_list members.items)) }
-    ensures within { IfOk result (λ members. All (IsMemberWithin (universe_of schema.now)) members.items) }
+    ensures within { IfOk result (λ members. All (IsMemberWithin (universe_of theory.now)) members.items) }
 {
     let mut members = Vec::new(alloc);
     for one in list {
         if let Dep::Fd { lhs, rhs } = one.dep {
-            add_members(schema, one.position, lhs, rhs, &mut members)?;
+            add_members(theory, one.position, lhs, rhs, &mut members)?;
         }
     }
     Ok(members)
@@ -47,32 +47,32 @@ pub fn short_members(
 
 // Adds the members of a functional dependency.
 fn add_members(
-    schema: &Schema,
+    theory: &Theory,
     position: u16,
     lhs: AttrSet,
     rhs: AttrSet,
     members: &mut Vec<ShortMember>,
 ) -> Result<(), OutOfMemory>
-    requires lhs { IsSubset (attributes lhs) (universe_of schema.now) }
-    requires rhs { IsSubset (attributes rhs) (universe_of schema.now) }
+    requires lhs { IsSubset (attributes lhs) (universe_of theory.now) }
+    requires rhs { IsSubset (attributes rhs) (universe_of theory.now) }
     ensures members { (firsts : List Placed)
-        → AreShortMembers (width_of schema.now) (theory_of schema.now) firsts
+        → AreShortMembers (width_of theory.now) (theory_of theory.now) firsts
         (shortened_list members.old.items)
-        → IfOk result (λ _. AreShortMembers (width_of schema.now) (theory_of schema.now)
-        (firsts ++ placed_members (width_of schema.now)
+        → IfOk result (λ _. AreShortMembers (width_of theory.now) (theory_of theory.now)
+        (firsts ++ placed_members (width_of theory.now)
         (placed position (fd (attributes lhs) (attributes rhs))))
         (shortened_list members.new.items)) }
-    ensures within { All (IsMemberWithin (universe_of schema.now)) members.old.items
-        → IfOk result (λ _. All (IsMemberWithin (universe_of schema.now)) members.new.items) }
+    ensures within { All (IsMemberWithin (universe_of theory.now)) members.old.items
+        → IfOk result (λ _. All (IsMemberWithin (universe_of theory.now)) members.new.items) }
 {
     let beyond = rhs.difference(lhs);
-    for a in 0..schema.width() {
+    for a in 0..theory.width() {
         if beyond.contains(a) {
             let right = AttrSet::single(a);
             members.push(ShortMember {
                 position,
                 whole: lhs,
-                left: left_reduced(schema.deps(), lhs, right),
+                left: left_reduced(theory.deps(), lhs, right),
                 right,
             })?;
         }

@@ -1,14 +1,14 @@
 ghost use Rattle.std.specs.Prelude.{◌≡◌, ◌++◌, [], List, All, IfOk, map};
 ghost use Rattle.dep_model.specs.Dependencies.{functional_part};
 ghost use Rattle.dep_model.specs.Deps.{dependencies_of, IsDepWithin};
-ghost use Rattle.dep_model.specs.Schemas.{width_of, theory_of, universe_of};
+ghost use Rattle.dep_model.specs.Theories.{width_of, theory_of, universe_of};
 ghost use Rattle.min_cover.specs.Covers.{IsFixedWholeCover, IsMinimalCover, IsWholeCover};
 ghost use Rattle.cover_accounts.specs.Steps.{AreCoverSteps, IsThinnedInto, Placed, places_of, short_of, shortened_list};
 ghost use Rattle.cover_accounts.specs.Gathering.{IsMemberWithin, IsPlacedWithin, short_dep};
 
 use crate::shortening::{ShortMember, short_members};
 use crate::thinning::{PlacedDep, add_multivalued, deps_alone, part_from, placed_deps};
-use dep_model::{Dep, OutOfMemory, Schema};
+use dep_model::{Dep, OutOfMemory, Theory};
 use std::alloc::Global;
 
 /// How a cover comes about: the members of the functional dependencies, each with what is left of its left
@@ -22,24 +22,24 @@ pub struct CoverSteps {
 }
 
 /// How the fixed whole cover of a schema comes about.
-pub fn cover_steps(alloc: Global, schema: &Schema) -> Result<CoverSteps, OutOfMemory>
-    ensures steps { IfOk result (λ steps. AreCoverSteps (width_of schema.now) (theory_of schema.now)
+pub fn cover_steps(alloc: Global, theory: &Theory) -> Result<CoverSteps, OutOfMemory>
+    ensures steps { IfOk result (λ steps. AreCoverSteps (width_of theory.now) (theory_of theory.now)
         (shortened_list steps.members.items) (places_of steps.gone.items)) }
-    ensures fixed { IfOk result (λ steps. IsFixedWholeCover (width_of schema.now) (theory_of schema.now)
+    ensures fixed { IfOk result (λ steps. IsFixedWholeCover (width_of theory.now) (theory_of theory.now)
         (dependencies_of steps.whole.items)) }
-    ensures minimal { IfOk result (λ steps. IsMinimalCover (width_of schema.now) (theory_of schema.now)
+    ensures minimal { IfOk result (λ steps. IsMinimalCover (width_of theory.now) (theory_of theory.now)
         (functional_part (dependencies_of steps.whole.items))) }
-    ensures whole_cover { IfOk result (λ steps. IsWholeCover (width_of schema.now)
-        (theory_of schema.now) (dependencies_of steps.whole.items)) }
-    ensures within { IfOk result (λ steps. All (IsDepWithin (universe_of schema.now)) steps.whole.items) }
+    ensures whole_cover { IfOk result (λ steps. IsWholeCover (width_of theory.now)
+        (theory_of theory.now) (dependencies_of steps.whole.items)) }
+    ensures within { IfOk result (λ steps. All (IsDepWithin (universe_of theory.now)) steps.whole.items) }
 {
-    let list = placed_deps(alloc, schema)?;
-    let members = short_members(alloc, schema, &list)?;
+    let list = placed_deps(alloc, theory)?;
+    let members = short_members(alloc, theory, &list)?;
     let mut gone = Vec::new(alloc);
-    let mut rest = thinned_members(alloc, schema, &members, &mut gone)?;
+    let mut rest = thinned_members(alloc, theory, &members, &mut gone)?;
     let from = rest.len();
     add_multivalued(&list, &mut rest)?;
-    let kept = part_from(alloc, schema.width(), &rest, from, &mut gone)?;
+    let kept = part_from(alloc, theory.width(), &rest, from, &mut gone)?;
     let whole = deps_alone(alloc, &kept)?;
     Ok(CoverSteps {
         members,
@@ -51,19 +51,19 @@ pub fn cover_steps(alloc: Global, schema: &Schema) -> Result<CoverSteps, OutOfMe
 // The shortened members without those that the others imply, which are added to others.
 fn thinned_members(
     alloc: Global,
-    schema: &Schema,
+    theory: &Theory,
     members: &[ShortMember],
     gone: &mut Vec<PlacedDep>,
 ) -> Result<Vec<PlacedDep>, OutOfMemory>
-    requires within { All (IsMemberWithin (universe_of schema.now)) members.now }
+    requires within { All (IsMemberWithin (universe_of theory.now)) members.now }
     ensures parted { IfOk result (λ kept. (out : List Placed)
         × (places_of gone.new.items ≡ places_of gone.old.items ++ out)
-        × IsThinnedInto (width_of schema.now) [] (map short_of (shortened_list members.now))
+        × IsThinnedInto (width_of theory.now) [] (map short_of (shortened_list members.now))
         (places_of kept.items) out) }
-    ensures within { IfOk result (λ kept. All (IsPlacedWithin (universe_of schema.now)) kept.items) }
+    ensures within { IfOk result (λ kept. All (IsPlacedWithin (universe_of theory.now)) kept.items) }
 {
     let list = short_deps(alloc, members)?;
-    part_from(alloc, schema.width(), &list, 0, gone)
+    part_from(alloc, theory.width(), &list, 0, gone)
 }
 
 // Members as dependencies, with what is left of their left sides.

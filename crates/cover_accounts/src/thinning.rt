@@ -1,12 +1,12 @@
 ghost use Rattle.std.specs.Prelude.{◌≡◌, ◌≤◌, ℕ, List, ◌++◌, length, take, drop, filter, IfOk, All};
 ghost use Rattle.attr_sets.specs.Attributes.{below};
 ghost use Rattle.attr_sets.specs.declared.set.TheConstants.{MOST_ATTRIBUTES};
-ghost use Rattle.dep_model.specs.Schemas.{theory_of, universe_of};
+ghost use Rattle.dep_model.specs.Theories.{theory_of, universe_of};
 ghost use Rattle.cover_accounts.specs.Steps.{Placed, IsThinnedInto, placed_from, places_of, is_multivalued};
 ghost use Rattle.cover_accounts.specs.Gathering.{IsPlacedWithin, deps_of_places};
 
 use dep_basis::is_implied_by;
-use dep_model::{Dep, OutOfMemory, Schema};
+use dep_model::{Dep, OutOfMemory, Theory};
 use min_cover::trivial_dependency;
 use std::alloc::Global;
 
@@ -18,12 +18,12 @@ pub struct PlacedDep {
 }
 
 // The dependencies of a schema with their positions.
-pub fn placed_deps(alloc: Global, schema: &Schema) -> Result<Vec<PlacedDep>, OutOfMemory>
-    ensures placed { IfOk result (λ list. places_of list.items ≡ placed_from 0 (theory_of schema.now)) }
-    ensures within { IfOk result (λ list. All (IsPlacedWithin (universe_of schema.now)) list.items) }
+pub fn placed_deps(alloc: Global, theory: &Theory) -> Result<Vec<PlacedDep>, OutOfMemory>
+    ensures placed { IfOk result (λ list. places_of list.items ≡ placed_from 0 (theory_of theory.now)) }
+    ensures within { IfOk result (λ list. All (IsPlacedWithin (universe_of theory.now)) list.items) }
 {
     let mut list = Vec::new(alloc);
-    for (k, dep) in schema.deps().iter().enumerate() {
+    for (k, dep) in theory.deps().iter().enumerate() {
         list.push(PlacedDep {
             position: k as u16,
             dep: *dep,

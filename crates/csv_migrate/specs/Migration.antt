@@ -5,8 +5,8 @@ use Rattle.attr_sets.specs.Attributes.{Attributes}
 use Rattle.attr_sets.specs.declared.set.AttrSet.{AttrSet}
 use Rattle.dep_model.specs.Tuples.{Tuple, Relation}
 use Rattle.dep_model.specs.Projections.{ordered_projection, members_below, InJoin}
-use Rattle.dep_model.specs.Schemas.{names_of, width_of, nullable_of}
-use Rattle.dep_model.specs.declared.schema.Schema.{Schema}
+use Rattle.schema_model.specs.Schemas.{names_of, width_of, nullable_of}
+use Rattle.schema_model.specs.Schemas.{Schema}
 use Rattle.schema_printer.specs.Printing.{members_from}
 use Rattle.table_names.specs.TableNames.{GivenNames, name_of_table}
 use Rattle.named_tables.specs.Tables.{TableValue}

@@ -7,15 +7,16 @@ ghost use Rattle.named_tables.specs.Tables.{chosen_value, chosen_values, table_v
 ghost use Rattle.row_groups.specs.Interning.{IsInterned};
 ghost use Rattle.plans.specs.Plans.{IsPlanOver, plan_of, scheme_sets};
 ghost use Rattle.dep_model.specs.Projections.{IsLossless};
-ghost use Rattle.dep_model.specs.Schemas.{LegalFor, theory_of, width_of};
+ghost use Rattle.schema_model.specs.Schemas.{LegalFor, theory_of, width_of, theory_in};
 ghost use Rattle.dep_model.specs.Tuples.{IsOver};
 
 use attr_sets::AttrSet;
-use dep_model::{Name, OutOfMemory, Schema};
+use dep_model::OutOfMemory;
 use named_tables::{ChosenTable, ChosenTables};
 use plans::Plan;
 use row_groups::{Groups, Interned};
 use row_store::{Hashing, Rows};
+use schema_model::{Name, Schema};
 use std::alloc::Global;
 use table_names::{MOST_TABLES, name_of_table};
 
@@ -34,7 +35,7 @@ pub fn tables(
 ) -> Result<ChosenTables, OutOfMemory>
     requires over { IsOver (width_of schema.now) rows }
     requires fits_u32 { length rows < 2 ^ 32 }
-    requires universe { IsPlanOver schema.now plan.now }
+    requires universe { IsPlanOver (theory_in schema.now) plan.now }
     requires within_limit { length (scheme_sets plan.now) ≤ MOST_TABLES }
     ensures rows { IfOk result (λ v. v.rows ≡ rows) }
     ensures tables { IfOk result (λ v.
@@ -59,7 +60,7 @@ fn tables_of(
 ) -> Result<Vec<ChosenTable>, OutOfMemory>
     requires over { IsOver (width_of schema.now) rows.now }
     requires fits_u32 { length rows.now < 2 ^ 32 }
-    requires universe { IsPlanOver schema.now plan.now }
+    requires universe { IsPlanOver (theory_in schema.now) plan.now }
     requires within_limit { length (scheme_sets plan.now) ≤ MOST_TABLES }
     ensures tables { IfOk result (λ v.
         chosen_values rows.now v.items ≡ tables_of_migration schema.now names.now (plan_of plan.now) rows.now) }

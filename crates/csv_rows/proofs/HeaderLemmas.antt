@@ -10,7 +10,7 @@ use Rattle.std.proofs.lemmas.List.Sums.{position_or_len_is, fails_before_first}
 use Rattle.attr_sets.proofs.AttributesLemmas.{count_below-none, count_below-union_only, same_at}
 use Rattle.attr_sets.specs.Attributes.{Attributes, union, only, none, count_below}
 use Rattle.dep_model.specs.Projections.{members_below}
-use Rattle.dep_model.specs.Schemas.{attribute_named}
+use Rattle.schema_model.specs.Schemas.{attribute_named}
 use Rattle.csv_rows.specs.declared.header.ColumnOfAttribute.{ColumnOfAttribute}
 use Rattle.csv_rows.specs.declared.refusal.RowRefusal.{RowRefusal}
 use Rattle.csv_rows.specs.declared.refusal.RowRefusal.TheVariants as refusal

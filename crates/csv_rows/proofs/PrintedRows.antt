@@ -17,16 +17,16 @@ use Rattle.csv.specs.Reading.{records_from, default_config, strip_bom}
 use Rattle.csv.specs.Writing.{default_writer, row_text, field_text, fields_text, needs_byte, read_back}
 use Rattle.csv.specs.declared.parser.State.TheVariants as st
 use Rattle.csv.proofs.RoundTrip.{read-write}
-use Rattle.dep_model.specs.Names.{is_bare_name, same_name}
+use Rattle.schema_model.specs.Names.{is_bare_name, same_name}
 use Rattle.dep_model.specs.Projections.{members_below}
-use Rattle.dep_model.specs.Schemas.{names_of, width_of, attribute_named, types_of, nullable_of}
+use Rattle.schema_model.specs.Schemas.{names_of, width_of, attribute_named, types_of, nullable_of}
 use Rattle.dep_model.specs.Tuples.{Tuple, Relation, IsOver, value_at}
 use Rattle.column_values.specs.Values.{FitsColumn, FitsColumns, FitsEach}
-use Rattle.dep_model.specs.declared.schema.Schema.{Schema}
+use Rattle.schema_model.specs.Schemas.{Schema}
 use Rattle.dep_model.proofs.SchemeLemmas.{length-members_below, members_below-at}
-use Rattle.dep_model.proofs.NameLemmas.{attribute_named-append}
+use Rattle.schema_model.proofs.NameLemmas.{attribute_named-append}
 use Rattle.csv_rows.proofs.HeaderLemmas.{named_after}
-use Rattle.dep_model.proofs.ListLemmas.{same_default}
+use Rattle.dep_model.proofs.ListLemmas.{range_more, same_default}
 use Rattle.csv_rows.proofs.ReadingLemmas.{whole_count}
 use Rattle.csv_rows.proofs.RecordLemmas.{one_more, no_more}
 use Rattle.csv_rows.specs.Columns.{with_columns, attribute_of_column, columns_of_header, columns_from, IsHeaderOf, ◌>>=◌}
@@ -145,21 +145,13 @@ printed_closed names rows not_empty proper =
     rw none refl
 
 -- ---- the columns of the header
-range_push : (a n : ℕ) → range_with_len a (suc n) ≡ range_with_len a n ++ (a + n) ∷ []
-range_push a zero = ap (λ (m : ℕ). m ∷ []) (omega arith)
-range_push a (suc n) =
-    ap (λ (l : List ℕ). a ∷ l) (range_push (a + 1) n ∙ ap (λ (m : ℕ). range_with_len (a + 1) n ++ m ∷ []) (omega arith))
-
-pub zero_plus : (n : ℕ) → 0 + n ≡ n
-zero_plus n = omega arith
-
-range_more : (n : ℕ) → range_with_len 0 (suc n) ≡ range_with_len 0 n ++ n ∷ []
-range_more n = range_push 0 n ∙ ap (λ (m : ℕ). range_with_len 0 n ++ m ∷ []) (zero_plus n)
+one_column_more : (n : ℕ) → range_with_len 0 (suc n) ≡ range_with_len 0 n ++ n ∷ []
+one_column_more n = let next : suc n ≡ n + 1 = omega arith in ap (range_with_len 0) next ∙ range_more n
 
 pub named_range : (n k : ℕ) → with_columns (range_with_len 0 n) k ≡ nat_lt k n
 named_range zero k = grind (arith, nat_tests)
 named_range (suc n) k =
-    ap (λ (l : List ℕ). with_columns l k) (range_more n) ∙ same_at (named_after (range_with_len 0 n) n) k
+    ap (λ (l : List ℕ). with_columns l k) (one_column_more n) ∙ same_at (named_after (range_with_len 0 n) n) k
     ∙ ap (λ (b : Bool). b || (k == n)) (named_range n k) ∙ grind (arith, nat_tests)
 
 pub own_column : (column m : ℕ) (x : Attributes) (o : Option ℕ) → o ≡ Some m → x m ≡ false → attribute_of_column column x o ≡ Ok m
@@ -200,7 +192,7 @@ own_columns_from before (name ∷ after) differ =
     (attribute_named names name) ≡ Ok m =
     own_column _ m _ _ lookup unused in
     let columns : range_with_len 0 m ++ m ∷ [] ≡ range_with_len 0 (length (before ++ name ∷ [])) =
-    sym (range_more m) ∙ ap (range_with_len 0) (sym size) in
+    sym (one_column_more m) ∙ ap (range_with_len 0) (sym size) in
     let rest =
     own_columns_from (before ++ name ∷ []) after
     (subst (λ (l : List (List ℕ)). AllPairs (λ a b. same_name a b ≡ false) l) (sym split) differ) in

@@ -15,11 +15,11 @@ use Rattle.dep_model.specs.declared.failure.Failure.{Failure}
 use Rattle.dep_model.specs.declared.failure.Failure.TheVariants.{Refused, OutOfMemory}
 use Rattle.dep_model.proofs.FailureLemmas.{refuses_also}
 use Rattle.dep_model.specs.Projections.{members_below}
-use Rattle.dep_model.specs.Schemas.{names_of, width_of, attribute_named, types_of, nullable_of}
+use Rattle.schema_model.specs.Schemas.{names_of, width_of, attribute_named, types_of, nullable_of}
 use Rattle.dep_model.specs.Tuples.{Tuple, Relation, IsOver, value_at}
-use Rattle.dep_model.specs.declared.column_type.ColumnType.{ColumnType}
+use Rattle.schema_model.specs.declared.column_type.ColumnType.{ColumnType}
 use Rattle.column_values.specs.Values.{FitsColumn, FitsColumns, FitsEach}
-use Rattle.dep_model.specs.declared.schema.Schema.{Schema}
+use Rattle.schema_model.specs.Schemas.{Schema}
 use Rattle.dep_model.proofs.SchemeLemmas.{length-members_below, members_below-at}
 use Rattle.attr_sets.specs.Sets.{attributes}
 use Rattle.attr_sets.specs.declared.set.TheConstants.{MOST_ATTRIBUTES}

@@ -3,9 +3,9 @@ use Rattle.std.proofs.Common.{inl, inr, ◌≡◌, ◌+◌, ◌<◌, ◌≤◌, 
 use Rattle.std.proofs.lemmas.Bool.{cases_lt, true≢false}
 use Rattle.std.proofs.lemmas.List.{ext_get_or}
 use Rattle.attr_sets.specs.Attributes.{IsSubset, below, difference, IsFirstFrom}
-use Rattle.dep_model.specs.Schemas.{names_of, width_of}
+use Rattle.schema_model.specs.Schemas.{names_of, width_of}
 use Rattle.dep_model.specs.Tuples.{Tuple, Relation}
-use Rattle.dep_model.specs.declared.schema.Schema.{Schema}
+use Rattle.schema_model.specs.Schemas.{Schema}
 use Rattle.csv_rows.specs.Columns.{with_columns, columns_of_header, IsHeaderOf}
 use Rattle.csv_rows.specs.Quotes.{is_open}
 use Rattle.csv_rows.specs.Reading.{ClosedRowOf, RowOf, HeaderOf, AreFirstRows, RowsUnder, TableOf}

@@ -4,7 +4,7 @@ use Rattle.std.specs.Prelude.{◌≡◌, ◌+◌, ℕ, if◌then◌else◌, List
 use Rattle.std.specs.List.{list_any, position_or_len}
 use Rattle.attr_sets.specs.Attributes.{Attributes, IsSubset, below, difference, IsFirstFrom}
 use Rattle.attr_sets.specs.Sets.{attributes}
-use Rattle.dep_model.specs.Schemas.{attribute_named}
+use Rattle.schema_model.specs.Schemas.{attribute_named}
 use Rattle.dep_model.specs.Projections.{members_below}
 use Rattle.csv_rows.specs.declared.header.Header.{Header}
 use Rattle.csv_rows.specs.declared.header.ColumnOfAttribute.{ColumnOfAttribute}

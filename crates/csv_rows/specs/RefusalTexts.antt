@@ -2,10 +2,10 @@
 -- `measure`.
 use Rattle.std.specs.Prelude.{ℕ, List, [], ◌++◌, codes, slice_index_or}
 use Rattle.std.specs.Fmt.{decimal}
-use Rattle.dep_model.specs.Schemas.{types_of}
-use Rattle.dep_model.specs.declared.column_type.ColumnType.{ColumnType}
-use Rattle.dep_model.specs.declared.column_type.ColumnType.TheVariants.{Text}
-use Rattle.dep_model.specs.declared.schema.Schema.{Schema}
+use Rattle.schema_model.specs.Schemas.{types_of}
+use Rattle.schema_model.specs.declared.column_type.ColumnType.{ColumnType}
+use Rattle.schema_model.specs.declared.column_type.ColumnType.TheVariants.{Text}
+use Rattle.schema_model.specs.Schemas.{Schema}
 use Rattle.schema_printer.specs.Printing.{type_word}
 use Rattle.schema_printer.specs.Spelling.{printed_names_of}
 use Rattle.csv_rows.specs.declared.refusal.RowRefusal.{RowRefusal}

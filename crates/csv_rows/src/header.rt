@@ -5,13 +5,14 @@ ghost use Rattle.attr_sets.specs.declared.set.TheConstants.{MOST_ATTRIBUTES};
 ghost use Rattle.csv.specs.Records.{fields_of};
 ghost use Rattle.csv_rows.specs.Columns.{attribute_of_column, columns_of_header, order_of, IsHeader};
 ghost use Rattle.dep_model.specs.Failures.{RefusesAs};
-ghost use Rattle.dep_model.specs.Schemas.{names_of, attribute_named, width_of};
+ghost use Rattle.schema_model.specs.Schemas.{names_of, attribute_named, width_of};
 
 use crate::RowRefusal;
 use crate::records::field;
 use attr_sets::AttrSet;
 use csv::ByteRecord;
-use dep_model::{Failure, OutOfMemory, Schema};
+use dep_model::{Failure, OutOfMemory};
+use schema_model::Schema;
 use std::alloc::Global;
 
 // An attribute and its column, from 0.

@@ -2,10 +2,10 @@
 
 ghost use Rattle.std.specs.Prelude.{◌≡◌, ◌≤◌, List, ℕ, length, All, IsTrue, Result, Ok};
 ghost use Rattle.column_values.specs.Values.{FitsColumns};
-ghost use Rattle.dep_model.specs.Names.{is_bare_name};
-ghost use Rattle.dep_model.specs.Schemas.{names_of, width_of};
+ghost use Rattle.schema_model.specs.Names.{is_bare_name};
+ghost use Rattle.schema_model.specs.Schemas.{names_of, width_of};
 ghost use Rattle.dep_model.specs.Tuples.{Relation, IsOver};
-ghost use Rattle.dep_model.specs.declared.schema.Schema.{Schema};
+ghost use Rattle.schema_model.specs.Schemas.{Schema};
 ghost use Rattle.csv_rows.specs.Reading.{RowsOf, PartOf};
 ghost use Rattle.csv_text.specs.Rows.{rows_text};
 ghost use Rattle.csv_rows.specs.declared.reading.TheConstants.{MOST_ROWS};

@@ -7,8 +7,9 @@ use crate::quotes::open_record;
 use crate::reading::{read_body, read_header};
 use crate::records::open_reader;
 use attr_sets::AttrSet;
-use dep_model::{Failure, Schema};
+use dep_model::Failure;
 use row_store::Rows;
+use schema_model::Schema;
 use std::alloc::Global;
 
 /// Rows over some of the attributes of a schema.

@@ -1,13 +1,14 @@
 ghost use Rattle.std.specs.Prelude.{◌≡◌, IfOk, OnOk};
 ghost use Rattle.csv.specs.Records.{fields_of};
 ghost use Rattle.csv_text.specs.Rows.{rows_text};
-ghost use Rattle.dep_model.specs.Schemas.{names_of, width_of};
+ghost use Rattle.schema_model.specs.Schemas.{names_of, width_of};
 ghost use Rattle.dep_model.specs.Tuples.{IsOver};
 
 use csv::{ByteRecord, Writer};
 use csv_text::{take_values, write_row};
-use dep_model::{OutOfMemory, Schema};
+use dep_model::OutOfMemory;
 use row_store::Rows;
+use schema_model::Schema;
 use std::alloc::Global;
 
 /// A header of the declared names, and then the rows in their order.

@@ -5,7 +5,7 @@ ghost use Rattle.csv_rows.specs.Records.{HasLeft};
 ghost use Rattle.csv_rows.specs.Reading.{ClosedRowOf, RowOf, RowsUnder, RowsOf, ReadsHeader, RefusesHeader};
 ghost use Rattle.dep_model.specs.Failures.{RefusesAs};
 ghost use Rattle.column_values.specs.Values.{FitsColumns};
-ghost use Rattle.dep_model.specs.Schemas.{names_of, width_of};
+ghost use Rattle.schema_model.specs.Schemas.{names_of, width_of};
 ghost use Rattle.dep_model.specs.Tuples.{IsOver};
 
 use crate::RowRefusal;
@@ -15,8 +15,9 @@ use crate::records::{field, open_reader, take_record};
 use attr_sets::AttrSet;
 use column_values::fits_column;
 use csv::{ByteRecord, Reader};
-use dep_model::{Failure, Schema};
+use dep_model::Failure;
 use row_store::{FlatValues, Rows};
+use schema_model::Schema;
 use std::alloc::Global;
 
 /// The most rows of a CSV text.

@@ -1,8 +1,8 @@
 ghost use Rattle.std.specs.Prelude.{◌≡◌, IsTrue};
 ghost use Rattle.csv_rows.specs.RefusalTexts.{type_of};
-ghost use Rattle.dep_model.specs.Columns.{is_column_type};
+ghost use Rattle.schema_model.specs.Columns.{is_column_type};
 
-use dep_model::{ColumnType, Schema};
+use schema_model::{ColumnType, Schema};
 
 /// The type of the column of an attribute; text where there is none.
 pub fn type_of(schema: &Schema, attribute: u8) -> ColumnType

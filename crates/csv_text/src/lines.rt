@@ -4,7 +4,8 @@ ghost use Rattle.csv_text.specs.Rows.{csv_row};
 
 use crate::writing::write_row;
 use csv::{ByteRecord, Writer};
-use dep_model::{Name, OutOfMemory};
+use dep_model::OutOfMemory;
+use schema_model::Name;
 use std::alloc::Global;
 
 /// The line of a header of these names.

@@ -7,7 +7,7 @@ use Rattle.std.proofs.lemmas.Bool.{and_parts, eqb-true, not-true, or_cases, true
 use Rattle.std.proofs.lemmas.Bool.Decides.{nat_tests}
 use Rattle.std.proofs.lemmas.List.{take-append-drop}
 use Rattle.std.proofs.lemmas.List.Folds.{length-prefix_len}
-use Rattle.dep_model.specs.Names.{is_type_byte, quotes_doubled}
+use Rattle.schema_model.specs.Names.{is_type_byte, quotes_doubled}
 use Rattle.sql_syntax.specs.Names.{quoted_name}
 use Rattle.sql_lexemes.specs.Bytes.{begins_word, is_blank, is_number_byte, is_strange, is_word_byte}
 use Rattle.sql_lexemes.specs.Ends.{quote_end}

@@ -6,10 +6,10 @@ use Rattle.std.proofs.lemmas.List.{map-append}
 use Rattle.attr_sets.specs.Attributes.{Attributes}
 use Rattle.attr_sets.specs.Sets.{attributes}
 use Rattle.dep_model.specs.Projections.{members_below}
-use Rattle.dep_model.specs.Schemas.{names_of, nullable_of, types_of, width_of}
-use Rattle.dep_model.specs.declared.column_type.ColumnType.{ColumnType}
-use Rattle.dep_model.specs.declared.column_type.ColumnType.TheVariants as type
-use Rattle.dep_model.specs.declared.schema.Schema.{Schema}
+use Rattle.schema_model.specs.Schemas.{names_of, nullable_of, types_of, width_of}
+use Rattle.schema_model.specs.declared.column_type.ColumnType.{ColumnType}
+use Rattle.schema_model.specs.declared.column_type.ColumnType.TheVariants as type
+use Rattle.schema_model.specs.Schemas.{Schema}
 use Rattle.schema_printer.specs.Printing.{members_from}
 use Rattle.sql_syntax.specs.Names.{comma_list, name_list, quoted_name, separator}
 use Rattle.ddl_text.specs.Ddl.{column_element, column_type, comment, element_lines, elements, is_empty, is_never_missing, key_element, keys_elements, reference_element, sql_type, table_text, unique_element}

@@ -7,11 +7,11 @@ use Rattle.std.proofs.lemmas.Bool.{and_from, and_parts, cases_Bool, eqb-true, le
 use Rattle.std.proofs.lemmas.Bool.Decides.{nat_tests}
 use Rattle.std.proofs.lemmas.Fmt.{decimal_digit}
 use Rattle.std.proofs.lemmas.List.{take-append-drop}
-use Rattle.dep_model.specs.Columns.{is_column_type}
-use Rattle.dep_model.specs.Names.{is_type_byte}
-use Rattle.dep_model.specs.declared.type_name.TheConstants.{MOST_TYPE_BYTES}
-use Rattle.dep_model.specs.declared.column_type.ColumnType.{ColumnType}
-use Rattle.dep_model.specs.declared.column_type.ColumnType.TheVariants as type
+use Rattle.schema_model.specs.Columns.{is_column_type}
+use Rattle.schema_model.specs.Names.{is_type_byte}
+use Rattle.schema_model.specs.declared.type_name.TheConstants.{MOST_TYPE_BYTES}
+use Rattle.schema_model.specs.declared.column_type.ColumnType.{ColumnType}
+use Rattle.schema_model.specs.declared.column_type.ColumnType.TheVariants as type
 use Rattle.sql_lexemes.specs.Bytes.{begins_word, is_number_byte, is_word_byte}
 use Rattle.sql_lexemes.specs.declared.dialect.Dialect.{Dialect}
 use Rattle.sql_lexemes.specs.declared.lexeme.LexemeKind.{LexemeKind}

@@ -1,7 +1,7 @@
 -- When statements create the tables of a design: for the law of its text, and for the laws that read it back.
 -- `Desk` does not cite it.
 use Rattle.std.specs.Prelude.{◌≡◌, ℕ, List, [], ◌∷◌, None}
-use Rattle.dep_model.specs.declared.schema.Schema.{Schema}
+use Rattle.schema_model.specs.Schemas.{Schema}
 use Rattle.ddl_text.specs.declared.table.TableDesign.{TableDesign}
 use Rattle.sql_lexemes.specs.Statements.{Stated}
 use Rattle.ddl_pieces.specs.Pieces.{create_lexemes}

@@ -9,9 +9,9 @@
 #![tactic(auto)]
 
 ghost use Rattle.std.specs.Prelude.{List, All, IsTrue};
-ghost use Rattle.dep_model.specs.Names.{IsName};
-ghost use Rattle.dep_model.specs.Schemas.{names_of, types_of};
-ghost use Rattle.dep_model.specs.declared.schema.Schema.{Schema};
+ghost use Rattle.schema_model.specs.Names.{IsName};
+ghost use Rattle.schema_model.specs.Schemas.{names_of, types_of};
+ghost use Rattle.schema_model.specs.Schemas.{Schema};
 ghost use Rattle.ddl_text.specs.Ddl.{ddl_text};
 ghost use Rattle.ddl_text.specs.declared.table.TableDesign.{TableDesign};
 ghost use Rattle.sql_lexemes.specs.Statements.{statements_of};

@@ -11,10 +11,10 @@ use Rattle.std.proofs.lemmas.List.Quantifiers.{all_pairs_push}
 use Rattle.attr_sets.specs.declared.set.AttrSet.{AttrSet}
 use Rattle.attr_sets.specs.Attributes.{Attributes, IsSubset}
 use Rattle.attr_sets.specs.Sets.{attributes, is_same}
-use Rattle.dep_model.specs.declared.schema.Schema.{Schema}
+use Rattle.schema_model.specs.Schemas.{Schema}
 use Rattle.dep_model.specs.Keys.{IsKey}
 use Rattle.dep_model.specs.Plans.{schemes_of}
-use Rattle.dep_model.specs.Schemas.{width_of, universe_of, theory_of, nullable_of}
+use Rattle.schema_model.specs.Schemas.{width_of, universe_of, theory_of, nullable_of}
 use Rattle.dep_model.proofs.DistinctLemmas.{filter-member}
 use Rattle.dep_model.proofs.ListLemmas.{map-member}
 use Rattle.primary_keys.specs.PrimaryKeys.{IsPrimaryKey}

@@ -5,8 +5,8 @@ use Rattle.attr_sets.specs.Attributes.{Attributes}
 use Rattle.attr_sets.specs.Sets.{attributes}
 use Rattle.dep_model.specs.Tuples.{Relation}
 use Rattle.dep_model.specs.Projections.{ordered_projection}
-use Rattle.dep_model.specs.Schemas.{LegalFor}
-use Rattle.dep_model.specs.declared.schema.Schema.{Schema}
+use Rattle.schema_model.specs.Schemas.{LegalFor}
+use Rattle.schema_model.specs.Schemas.{Schema}
 use Rattle.ddl_text.specs.declared.table.TableDesign.{TableDesign}
 use Rattle.ddl_text.specs.Designs.{known_keys}
 use Rattle.ddl_text.specs.KeysAndReferences.{KeyHolds, ReferenceHolds}

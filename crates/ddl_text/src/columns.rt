@@ -1,14 +1,15 @@
 ghost use Rattle.std.specs.Prelude.{◌≡◌, ◌<◌, ◌++◌, false, codes, decimal, IfOk, IsTrue, OnOk};
 ghost use Rattle.attr_sets.specs.Sets.{attributes};
-ghost use Rattle.dep_model.specs.Columns.{is_column_type};
-ghost use Rattle.dep_model.specs.Schemas.{width_of};
+ghost use Rattle.schema_model.specs.Columns.{is_column_type};
+ghost use Rattle.schema_model.specs.Schemas.{width_of};
 ghost use Rattle.ddl_text.specs.Ddl.{column_element, column_elements, column_type, sql_type, element_lines};
 ghost use Rattle.sql_syntax.specs.Names.{is_not_empty};
 
 use crate::elements::add_opening;
 use attr_sets::AttrSet;
 use byte_texts::{add, add_digit};
-use dep_model::{ColumnType, OutOfMemory, Schema};
+use dep_model::OutOfMemory;
+use schema_model::{ColumnType, Schema};
 use sql_syntax::add_quoted;
 
 // Adds the columns of a scheme as the first elements, and says whether there are some.

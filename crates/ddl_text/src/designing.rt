@@ -1,7 +1,7 @@
 ghost use Rattle.std.specs.Prelude.{◌≡◌, ◌↔◌, ◌<◌, ◌≤◌, length, All, IsTrue, IfOk};
 ghost use Rattle.attr_sets.specs.Attributes.{IsSubset};
 ghost use Rattle.attr_sets.specs.Sets.{attributes};
-ghost use Rattle.dep_model.specs.Schemas.{universe_of};
+ghost use Rattle.schema_model.specs.Schemas.{universe_of, theory_in};
 ghost use Rattle.plans.specs.Plans.{scheme_sets, IsPlanOver};
 ghost use Rattle.table_names.specs.declared.numbered.TheConstants.{MOST_TABLES};
 ghost use Rattle.ddl_text.specs.Designs.{RefersTo, AreReferences, IsTableOf, IsDesign, ReferToEarlier};
@@ -10,9 +10,10 @@ ghost use Rattle.ddl_text.specs.Laws.{KeysHold, OtherKeysHold, ReferencesHold};
 use crate::TableDesign;
 use crate::other_keys::other_keys;
 use attr_sets::AttrSet;
-use dep_model::{Name, OutOfMemory, Schema};
+use dep_model::OutOfMemory;
 use plans::Plan;
 use primary_keys::primary_key;
+use schema_model::{Name, Schema};
 use std::alloc::Global;
 use std::marker::Model;
 use table_names::name_of_table;
@@ -56,7 +57,7 @@ pub fn design(
     plan: &Plan,
     names: &[Option<Name>],
 ) -> Result<DesignList, OutOfMemory>
-    requires universe { IsPlanOver schema.now plan.now }
+    requires universe { IsPlanOver (theory_in schema.now) plan.now }
     requires within_limit { length (scheme_sets plan.now) ≤ MOST_TABLES }
     ensures design { IfOk result (λ tables. IsDesign schema.now names.now (scheme_sets plan.now) tables) }
     ensures keys_hold { IfOk result (λ tables. KeysHold schema.now tables) }
@@ -99,7 +100,7 @@ fn table_of(
     requires within_limit { length earlier.now < MOST_TABLES }
     ensures table { IfOk result (IsTableOf schema.now names.now earlier.now scheme) }
 {
-    let key = primary_key(schema, scheme);
+    let key = primary_key(&schema.theory(), schema.nullable(), scheme);
     Ok(TableDesign {
         number: earlier.len() as u32 + 1,
         name: name_of_table(names, earlier.len() as u32),

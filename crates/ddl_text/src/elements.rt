@@ -10,7 +10,8 @@ use crate::other_keys::may_be_missing;
 use crate::references::add_references;
 use attr_sets::AttrSet;
 use byte_texts::add;
-use dep_model::{OutOfMemory, Schema};
+use dep_model::OutOfMemory;
+use schema_model::Schema;
 use sql_syntax::add_name_list;
 
 // Adds the columns, the keys and the references of a table.

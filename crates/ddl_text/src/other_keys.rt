@@ -1,13 +1,14 @@
 ghost use Rattle.std.specs.Prelude.{◌≡◌, not, IfOk};
 ghost use Rattle.attr_sets.specs.Attributes.{IsSubset};
 ghost use Rattle.attr_sets.specs.Sets.{attributes};
-ghost use Rattle.dep_model.specs.Schemas.{universe_of};
+ghost use Rattle.schema_model.specs.Schemas.{universe_of};
 ghost use Rattle.ddl_text.specs.Ddl.{is_never_missing};
 ghost use Rattle.ddl_text.specs.Designs.{without_key, AreOtherKeys};
 
 use attr_sets::AttrSet;
-use dep_model::{Failure, OutOfMemory, Schema};
+use dep_model::{Failure, OutOfMemory};
 use key_listing::keys_of_scheme;
+use schema_model::Schema;
 use std::alloc::Global;
 
 // The keys of a scheme beside this one, ascending; none where they are not looked for.
@@ -23,7 +24,7 @@ pub fn other_keys(
     if key.is_empty() {
         return Ok(Some(Vec::new(alloc)));
     }
-    match keys_of_scheme(alloc, schema, scheme) {
+    match keys_of_scheme(alloc, &schema.theory(), scheme) {
         Ok(keys) => Ok(Some(without_key(alloc, &keys, key)?)),
         Err(Failure::Refused(_)) => Ok(None),
         Err(Failure::OutOfMemory) => Err(OutOfMemory),

@@ -9,7 +9,8 @@ use crate::other_keys::may_be_missing;
 use crate::{DesignList, TableDesign};
 use attr_sets::AttrSet;
 use byte_texts::add;
-use dep_model::{OutOfMemory, Schema};
+use dep_model::OutOfMemory;
+use schema_model::Schema;
 use sql_syntax::{add_name_list, add_quoted};
 use std::alloc::Global;
 

@@ -4,7 +4,8 @@ ghost use Rattle.ddl_text.specs.Ddl.{element_lines, reference_element, reference
 use crate::TableDesign;
 use crate::elements::add_opening;
 use byte_texts::add;
-use dep_model::{OutOfMemory, Schema};
+use dep_model::OutOfMemory;
+use schema_model::Schema;
 use sql_syntax::{add_name_list, add_quoted};
 
 // Adds the references to the tables at these positions, in order, where other elements stand before or not.

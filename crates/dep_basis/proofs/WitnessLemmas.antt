@@ -7,11 +7,7 @@ use Rattle.std.proofs.lemmas.List.Elements.{All-cons, All-nil}
 use Rattle.std.specs.Prelude.{slice_get}
 use Rattle.std.proofs.Common.{Some}
 use Rattle.attr_sets.specs.Attributes.{Attributes}
-use Rattle.dep_model.specs.declared.column_type.ColumnType.{ColumnType}
-use Rattle.dep_model.specs.declared.column_type.ColumnType.TheVariants.{Integer}
 use Rattle.dep_model.specs.Tuples.{Tuple, value_at}
-use Rattle.dep_model.specs.Columns.{IsTyped}
-use Rattle.dep_model.specs.Integers.{IsIntegerText}
 use Rattle.dep_model.specs.TwoTuples.{zero_text, one_text, all_zeros, zeros_on, two_tuples}
 use Rattle.dep_model.proofs.TwoTupleLemmas.{length-all_zeros, length-zeros_on, value_at-all_zeros, value_at-zeros_on, two_tuples-is}
 
@@ -30,29 +26,3 @@ zeros_on-all n x all = same_lists (zeros_on n x) (all_zeros n) (length-zeros_on 
     let lo : k < length (all_zeros n) = omega (arith, length-all_zeros n) in
     get_or_default (zeros_on n x) k d [] l ∙ value_at-zeros_on n x k low ∙ ap (λ (b : Bool). cond b zero_text one_text) (all k low)
     ∙ sym (get_or_default (all_zeros n) k d [] lo ∙ value_at-all_zeros n k low))
-
--- both texts are integers
-zero_integer : IsIntegerText zero_text
-zero_integer = inl refl
-
-one_integer : IsIntegerText one_text
-one_integer = inr (inl (record { not_empty = omega arith; first = λ (e : ◌≡◌ {A = ℕ} 49 48). absurd (omega arith); digits = refl; value = lit≤ tt }))
-
-digit_integer : (b : Bool) → IsIntegerText (cond b zero_text one_text)
-digit_integer true = zero_integer
-digit_integer false = one_integer
-
--- ---- so the two tuples fit columns of either type
-abbrev FitsTypes : List ColumnType → Tuple → Type 0
-FitsTypes columns t = (k : ℕ) → slice_get columns k ≡ Some Integer → IsIntegerText (value_at t k)
-
-integer_column-below : (n : ℕ) (columns : List ColumnType) → length columns ≡ n → (k : ℕ) → slice_get columns k ≡ Some Integer → k < n
-integer_column-below n columns one_each k e = omega (arith, slice_get_within columns k Integer e, one_each)
-
-pub two_tuples-typed : (n : ℕ) (columns : List ColumnType) (x : Attributes) → length columns ≡ n → IsTyped columns (two_tuples n x)
-two_tuples-typed n columns x one_each = rw (two_tuples-is n x)
-    (All-cons (FitsTypes columns) (all_zeros n) (zeros_on n x ∷ [])
-    (λ (k : ℕ) e. rw (value_at-all_zeros n k (integer_column-below n columns one_each k e)) zero_integer)
-    (All-cons (FitsTypes columns) (zeros_on n x) []
-    (λ (k : ℕ) e. rw (value_at-zeros_on n x k (integer_column-below n columns one_each k e)) (digit_integer (x k)))
-    (All-nil (FitsTypes columns))))

@@ -4,24 +4,24 @@ ghost use Rattle.attr_sets.specs.Sets.{attributes};
 ghost use Rattle.attr_sets.specs.declared.set.TheConstants.{MOST_ATTRIBUTES};
 ghost use Rattle.dep_model.specs.Deps.{dependencies_of, IsDepWithin};
 ghost use Rattle.dep_model.specs.Keys.{InClosure, IsBlock};
-ghost use Rattle.dep_model.specs.Schemas.{width_of, universe_of, theory_of};
+ghost use Rattle.dep_model.specs.Theories.{width_of, universe_of, theory_of};
 ghost use Rattle.dep_basis.specs.Bases.{IsBasis, IsTraceBasis};
 
 use crate::gathering::{Blocks, traces};
 use crate::pieces::{all_pieces, outside_all};
 use crate::refining::block_of;
 use attr_sets::AttrSet;
-use dep_model::{Dep, Schema};
+use dep_model::{Dep, Theory};
 use fd_closure::{functional_closure, is_functional};
 
 /// The dependency basis of a left side: the attributes that it determines, and the blocks, the least
 /// sets of other attributes that it multidetermines (Beeri 1980). A set is multidetermined exactly
 /// where no block intersects both it and its complement.
-pub fn basis(schema: &Schema, lhs: AttrSet) -> Blocks
-    requires within { IsSubset (attributes lhs) (universe_of schema.now) }
-    ensures basis { IsBasis (width_of schema.now) (theory_of schema.now) (attributes lhs) result }
+pub fn basis(theory: &Theory, lhs: AttrSet) -> Blocks
+    requires within { IsSubset (attributes lhs) (universe_of theory.now) }
+    ensures basis { IsBasis (width_of theory.now) (theory_of theory.now) (attributes lhs) result }
 {
-    basis_by(schema.deps(), schema.width(), lhs)
+    basis_by(theory.deps(), theory.width(), lhs)
 }
 
 /// The dependency basis by a list of dependencies over this many attributes.
@@ -48,12 +48,12 @@ pub fn trace_basis_by(deps: &[Dep], width: u8, scheme: AttrSet, lhs: AttrSet) ->
 }
 
 /// The attributes that a left side determines.
-pub fn closure(schema: &Schema, lhs: AttrSet) -> AttrSet
-    requires within { IsSubset (attributes lhs) (universe_of schema.now) }
+pub fn closure(theory: &Theory, lhs: AttrSet) -> AttrSet
+    requires within { IsSubset (attributes lhs) (universe_of theory.now) }
     ensures closure { (a : ℕ) → (attributes result a ≡ true)
-        ↔ InClosure (width_of schema.now) (theory_of schema.now) (attributes lhs) a }
+        ↔ InClosure (width_of theory.now) (theory_of theory.now) (attributes lhs) a }
 {
-    closure_by(schema.deps(), schema.width(), lhs)
+    closure_by(theory.deps(), theory.width(), lhs)
 }
 
 /// The attributes that a left side determines by a list of dependencies over this many attributes.
@@ -73,16 +73,16 @@ pub fn closure_by(deps: &[Dep], width: u8, lhs: AttrSet) -> AttrSet
 }
 
 /// The block of a left side with an attribute in it; none where the left side determines the attribute.
-pub fn block(schema: &Schema, lhs: AttrSet, attribute: u8) -> Option<AttrSet>
-    requires lhs { IsSubset (attributes lhs) (universe_of schema.now) }
-    requires attribute { attribute < width_of schema.now }
+pub fn block(theory: &Theory, lhs: AttrSet, attribute: u8) -> Option<AttrSet>
+    requires lhs { IsSubset (attributes lhs) (universe_of theory.now) }
+    requires attribute { attribute < width_of theory.now }
     ensures none { IsNone result
-        ↔ InClosure (width_of schema.now) (theory_of schema.now) (attributes lhs) attribute }
+        ↔ InClosure (width_of theory.now) (theory_of theory.now) (attributes lhs) attribute }
     ensures block { IfSome result
-        (λ p. IsBlock (width_of schema.now) (theory_of schema.now) (attributes lhs) (attributes p)) }
+        (λ p. IsBlock (width_of theory.now) (theory_of theory.now) (attributes lhs) (attributes p)) }
     ensures member { IfSome result (λ p. attributes p attribute ≡ true) }
 {
-    block_by(schema.deps(), schema.width(), lhs, attribute)
+    block_by(theory.deps(), theory.width(), lhs, attribute)
 }
 
 /// The block with an attribute in it by a list of dependencies over this many attributes.

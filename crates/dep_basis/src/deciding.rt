@@ -5,14 +5,14 @@ ghost use Rattle.attr_sets.specs.declared.set.TheConstants.{MOST_ATTRIBUTES};
 ghost use Rattle.dep_model.specs.Dependencies.{fd, mvd};
 ghost use Rattle.dep_model.specs.Deps.{dependency_of, dependencies_of, IsDepWithin};
 ghost use Rattle.dep_model.specs.Implication.{Implies};
-ghost use Rattle.dep_model.specs.Schemas.{width_of, universe_of, theory_of, ImpliedBy};
+ghost use Rattle.dep_model.specs.Theories.{width_of, universe_of, theory_of, ImpliedBy};
 ghost use Rattle.dep_basis.specs.Firsts.{IsFirstWith};
 ghost use Rattle.dep_basis.specs.Breaking.{IsBreakingBlock};
 ghost use Rattle.dep_basis.specs.Decisions.{IsDecided};
 
 use crate::bases::{basis_by, block_by};
 use attr_sets::AttrSet;
-use dep_model::{Dep, Schema};
+use dep_model::{Dep, Theory};
 use fd_closure::functional_closure;
 
 /// Whether a schema implies a dependency.
@@ -28,12 +28,12 @@ pub enum Decision {
 /// block of the left side: for a functional dependency that of the first attribute of the right side
 /// outside the closed set, for a multivalued one the first that intersects both the right side and its
 /// complement.
-pub fn decide(schema: &Schema, dep: Dep) -> Decision
-    requires within { IsDepWithin (universe_of schema.now) dep }
-    ensures decision { IsDecided (width_of schema.now) (theory_of schema.now) (dependency_of dep) result }
-    ensures implied { (result ≡ Decision.Implied) ↔ ImpliedBy schema.now (dependency_of dep) }
+pub fn decide(theory: &Theory, dep: Dep) -> Decision
+    requires within { IsDepWithin (universe_of theory.now) dep }
+    ensures decision { IsDecided (width_of theory.now) (theory_of theory.now) (dependency_of dep) result }
+    ensures implied { (result ≡ Decision.Implied) ↔ ImpliedBy theory.now (dependency_of dep) }
 {
-    decide_by(schema.deps(), schema.width(), dep)
+    decide_by(theory.deps(), theory.width(), dep)
 }
 
 /// Decides whether a list of dependencies over this many attributes implies a dependency.

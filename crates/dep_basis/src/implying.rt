@@ -5,21 +5,21 @@ ghost use Rattle.attr_sets.specs.declared.set.TheConstants.{MOST_ATTRIBUTES};
 ghost use Rattle.dep_model.specs.Dependencies.{fd};
 ghost use Rattle.dep_model.specs.Deps.{dependency_of, dependencies_of, IsDepWithin};
 ghost use Rattle.dep_model.specs.Implication.{Implies};
-ghost use Rattle.dep_model.specs.Schemas.{universe_of, ImpliedBy};
+ghost use Rattle.dep_model.specs.Theories.{universe_of, ImpliedBy};
 
 use crate::bases::closure_by;
 use crate::deciding::{Decision, decide_by};
 use attr_sets::AttrSet;
-use dep_model::{Dep, Schema};
+use dep_model::{Dep, Theory};
 use fd_closure::{follows, is_functional};
 
 /// Whether a schema implies a dependency. Other than `decide` it names nothing where it does not, and
 /// is found sooner.
-pub fn is_implied(schema: &Schema, dep: Dep) -> bool
-    requires within { IsDepWithin (universe_of schema.now) dep }
-    ensures implied { IsTrue result ↔ ImpliedBy schema.now (dependency_of dep) }
+pub fn is_implied(theory: &Theory, dep: Dep) -> bool
+    requires within { IsDepWithin (universe_of theory.now) dep }
+    ensures implied { IsTrue result ↔ ImpliedBy theory.now (dependency_of dep) }
 {
-    is_implied_by(schema.deps(), schema.width(), dep)
+    is_implied_by(theory.deps(), theory.width(), dep)
 }
 
 /// Whether a list of dependencies over this many attributes implies a dependency.

@@ -5,24 +5,24 @@ ghost use Rattle.attr_sets.specs.declared.set.TheConstants.{MOST_ATTRIBUTES};
 ghost use Rattle.dep_model.specs.declared.dep.Dep.{Dep};
 ghost use Rattle.dep_model.specs.Deps.{dependency_of, dependencies_of, IsDepWithin};
 ghost use Rattle.dep_model.specs.Implication.{Implies};
-ghost use Rattle.dep_model.specs.Schemas.{width_of, universe_of, theory_of};
+ghost use Rattle.dep_model.specs.Theories.{width_of, universe_of, theory_of};
 ghost use Rattle.dep_basis.specs.Refining.{LeavesWhole};
 ghost use Rattle.dep_basis.specs.Pieces.{CanRefine};
 ghost use Rattle.dep_basis.specs.Parts.{HasTwoParts, IsParted};
 
 use attr_sets::AttrSet;
-use dep_model::{Dep, Schema, sides};
+use dep_model::{Dep, Theory, sides};
 
 /// Whether a left side has at least two parts on a scheme: whether it multidetermines there some of what
 /// lies beyond it, and not all. It stops as soon as this is known.
-pub fn has_two_parts(schema: &Schema, scheme: AttrSet, lhs: AttrSet) -> bool
-    requires scheme { IsSubset (attributes scheme) (universe_of schema.now) }
+pub fn has_two_parts(theory: &Theory, scheme: AttrSet, lhs: AttrSet) -> bool
+    requires scheme { IsSubset (attributes scheme) (universe_of theory.now) }
     requires lhs { IsSubset (attributes lhs) (attributes scheme) }
     ensures parts { IsTrue result
-        ↔ HasTwoParts (width_of schema.now) (theory_of schema.now) (attributes scheme)
+        ↔ HasTwoParts (width_of theory.now) (theory_of theory.now) (attributes scheme)
         (attributes lhs) }
 {
-    has_two_parts_by(schema.deps(), schema.width(), scheme, lhs)
+    has_two_parts_by(theory.deps(), theory.width(), scheme, lhs)
 }
 
 /// Whether a left side has at least two parts on a scheme by a list of dependencies over this many

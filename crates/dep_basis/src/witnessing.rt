@@ -3,21 +3,20 @@ ghost use Rattle.attr_sets.specs.Attributes.{IsSubset};
 ghost use Rattle.attr_sets.specs.Sets.{attributes};
 ghost use Rattle.attr_sets.specs.declared.set.TheConstants.{MOST_ATTRIBUTES};
 ghost use Rattle.dep_model.specs.TwoTuples.{zero_text, one_text, zeros_on, two_tuples};
-ghost use Rattle.dep_model.specs.Schemas.{width_of, universe_of, TypedFor};
+ghost use Rattle.dep_model.specs.Theories.{width_of, universe_of};
 
 use attr_sets::AttrSet;
-use dep_model::{OutOfMemory, Row, Schema, Value};
+use dep_model::{OutOfMemory, Row, Theory, Value};
 use std::alloc::Global;
 
 /// Two rows that agree exactly on a set of attributes: all `0`, and `0` on the set and `1` elsewhere
-/// (Sagiv, Delobel, Parker and Fagin 1981). They fit columns of either type.
-pub fn witness(alloc: Global, schema: &Schema, agreement: AttrSet) -> Result<[Row; 2], OutOfMemory>
-    requires within { IsSubset (attributes agreement) (universe_of schema.now) }
+/// (Sagiv, Delobel, Parker and Fagin 1981).
+pub fn witness(alloc: Global, theory: &Theory, agreement: AttrSet) -> Result<[Row; 2], OutOfMemory>
+    requires within { IsSubset (attributes agreement) (universe_of theory.now) }
     ensures rows { IfOk result (λ rows. rows
-        ≡ two_tuples (width_of schema.now) (attributes agreement)) }
-    ensures typed { IfOk result (TypedFor schema.now) }
+        ≡ two_tuples (width_of theory.now) (attributes agreement)) }
 {
-    let width = schema.width();
+    let width = theory.width();
     let first = row_with_zeros_on(alloc, width, AttrSet::full(width))?;
     let second = row_with_zeros_on(alloc, width, agreement)?;
     Ok([first, second])

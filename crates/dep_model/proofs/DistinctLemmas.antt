@@ -1,14 +1,14 @@
 -- Each distinct tuple once: the same relation, without repetition.
-use Rattle.std.proofs.Common.{◌≡◌, ℕ, zero, suc, Bool, true, not, List, [], ◌∷◌, get_or, filter, cond, sym, ap, ◌∙◌, subst, inl, inr, ⊎_elim, arith}
+use Rattle.std.proofs.Common.{◌≡◌, ℕ, Bool, true, not, List, [], ◌∷◌, filter, cond, sym, ap, ◌∙◌, subst, inl, inr, ⊎_elim, arith}
 use Rattle.std.proofs.lemmas.Bool.{cases_Bool, true≢false, eqb-true, eq-eqb, not-true, not_from_false}
 use Rattle.std.specs.Bool.{Decides}
 use Rattle.std.specs.Cmp.Lexicographic.{pointwise_decides}
 use Rattle.std.specs.Prelude.{AllPairs, Contains}
-use Rattle.std.proofs.lemmas.List.Elements.{Contains-get_or}
 use Rattle.attr_sets.specs.Attributes.{Attributes}
 use Rattle.dep_model.specs.Tuples.{Tuple, Relation, SameRelation, same_tuple, distinct_tuples}
 use Rattle.dep_model.specs.Projections.{projection, ordered_projection}
 use Rattle.dep_model.proofs.ListLemmas.{Contains-head, Contains-later, Contains-cases}
+use Rattle.dep_model.proofs.PairLemmas.{all_pairs_cons, first_pairs, later_pairs}
 
 -- ---- the test of equal tuples
 pub same_tuple-decides : (t u : Tuple) → Decides (same_tuple t u) (t ≡ u)
@@ -62,26 +62,17 @@ distinct_tuples-from (u ∷ r) t h = elim (cases_Bool (same_tuple u t)) [
 ]
 
 -- ---- none twice
-pub all_pairs_cons : {X : Type 0} (R : X → X → Type 0) (x : X) (xs : List X) → ((y : X) → Contains xs y → R x y) → AllPairs R xs → AllPairs R (x ∷ xs)
-all_pairs_cons R x xs first later i zero d lt l = absurd (omega arith)
-all_pairs_cons R x xs first later zero (suc j) d lt l = first (get_or xs j d) (Contains-get_or xs j d (omega (arith, l)))
-all_pairs_cons R x xs first later (suc i) (suc j) d lt l = later i j d (omega arith) (omega (arith, l))
-
 abbrev pub Differ : Tuple → Tuple → Type 0
 Differ t u = t ≡ u → ⊥
 
 filter-pairs : (p : Tuple → Bool) (r : Relation) → AllPairs Differ r → AllPairs Differ (filter p r)
 filter-pairs p [] h = h
 filter-pairs p (t ∷ r) h =
-    let later : AllPairs Differ r = λ i j d lt l. h (suc i) (suc j) d (omega arith) (omega (arith, l)) in
-    let rest = filter-pairs p r later in
+    let rest = filter-pairs p r (later_pairs Differ t r h) in
     elim (cases_Bool (p t)) [
-      | inl passes ↦ rw passes (all_pairs_cons Differ t (filter p r) (λ u u_in same. first_apart u (filter-member p r u u_in).0 same) rest)
+      | inl passes ↦ rw passes (all_pairs_cons Differ t (filter p r) (λ u u_in. first_pairs Differ t r u h (filter-member p r u u_in).0) rest)
       | inr fails ↦ rw fails rest
     ]
-  where
-    first_apart : (u : Tuple) → Contains r u → t ≡ u → ⊥
-    first_apart u u_in same = h 0 (suc u_in.0) u (omega arith) (omega (arith, u_in.1)) (same ∙ sym u_in.2)
 
 pub distinct_tuples-differ : (r : Relation) → AllPairs Differ (distinct_tuples r)
 distinct_tuples-differ [] = λ i j d lt l. absurd (omega (arith, l))

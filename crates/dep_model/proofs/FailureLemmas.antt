@@ -1,5 +1,5 @@
 -- What is said of a refusal carries over to what follows from it.
-use Rattle.std.proofs.Common.{◌≡◌, subst, ◌+◌, ◌*◌, ◌<◌, ◌≤◌, Result, Ok, Err, ◌∙◌}
+use Rattle.std.proofs.Common.{◌≡◌, subst, Result, Ok, Err}
 use Rattle.dep_model.specs.Failures.{RefusesAs}
 use Rattle.dep_model.specs.declared.failure.Failure.{Failure}
 use Rattle.dep_model.specs.declared.failure.Failure.TheVariants.{Refused, OutOfMemory}

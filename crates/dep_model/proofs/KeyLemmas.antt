@@ -1,13 +1,14 @@
 -- Superkeys, and the key that is left where attributes are tried from the last to the first.
-use Rattle.std.proofs.Common.{◌≡◌, ℕ, ◌+◌, zero, suc, true, false, cond, List, sym, ap, ◌∙◌, inl, inr, arith}
-use Rattle.std.proofs.lemmas.Bool.{cases_Bool, cases_eq, true≢false, true_from_ne_false}
+use Rattle.std.proofs.Common.{◌≡◌, ℕ, false, List, sym, ap, ◌∙◌, inl, inr, arith}
+use Rattle.std.proofs.lemmas.Bool.{cases_eq, true≢false, true_from_ne_false}
 use Rattle.std.proofs.lemmas.Bool.Decides.{nat_tests}
-use Rattle.std.specs.Prelude.{nat_lt}
 use Rattle.attr_sets.specs.Attributes.{Attributes, below, only, union, difference, IsSubset}
+use Rattle.attr_sets.specs.declared.narrowing.Direction.TheVariants.{Descending}
+use Rattle.attr_sets.proofs.NarrowingLemmas.{narrowed_passes, narrowed_minimal, one_narrowed}
 use Rattle.dep_model.specs.Dependencies.{Dependency, fd}
 use Rattle.dep_model.specs.Implication.{Implies}
 use Rattle.dep_model.specs.OnSchemes.{ImpliedOn}
-use Rattle.dep_model.specs.Keys.{IsSuperkey, IsKey, IsPrime, IsGreedyKey, left_without}
+use Rattle.dep_model.specs.Keys.{IsSuperkey, IsKey, IsPrime, IsGreedyKey}
 use Rattle.dep_model.proofs.RuleLemmas.{reflexivity_obeyed, transitivity_obeyed, fd_weaker_obeyed}
 use Rattle.dep_model.proofs.SchemeLemmas.{fd_in-to, fd_in-from}
 
@@ -35,51 +36,18 @@ superkey_more n ds scheme j k inside within superkey =
     superkey-from n ds scheme k within (λ r legal. fd_weaker_obeyed j scheme k scheme r inside (λ (i : ℕ) m. m) (fd_on-to n ds scheme j scheme superkey r legal))
 
 -- ---- the greedy key
--- what stands where the attributes from m on have been tried
-abbrev tried_from : Attributes → Attributes → ℕ → Attributes
-tried_from scheme kept m k = cond (nat_lt k m) (scheme k) (kept k)
-
-tried_kept : (scheme k : Attributes) (m : ℕ) → k m ≡ true → IsSubset (tried_from scheme k (m + 1)) (tried_from scheme k m)
-tried_kept scheme k m kept j h = elim (cases_eq j m) [
-  | inl same ↦ let e : k j ≡ true = ap k same ∙ kept in grind (arith, nat_tests, e)
-  | inr other ↦ grind (arith, nat_tests)
-]
-
-tried_outside : (scheme k : Attributes) (m : ℕ) → scheme m ≡ false → IsSubset (tried_from scheme k (m + 1)) (tried_from scheme k m)
-tried_outside scheme k m outside j h = elim (cases_eq j m) [
-  | inl same ↦ let e : scheme j ≡ false = ap scheme same ∙ outside in grind (arith, nat_tests, e)
-  | inr other ↦ grind (arith, nat_tests)
-]
-
--- it is a superkey at each step, down to the key itself
-tried_superkey : (n : ℕ) (ds : List Dependency) (scheme k : Attributes) → IsGreedyKey n ds scheme k → IsSubset scheme (below n) → (m left : ℕ) → m + left ≡ n → IsSuperkey n ds scheme (tried_from scheme k m)
-tried_superkey n ds scheme k greedy low m zero e =
-    superkey_more n ds scheme scheme (tried_from scheme k m) (λ (j : ℕ) h. grind (arith, nat_tests, low j h)) (λ (j : ℕ) h. grind (arith, nat_tests, greedy.within j)) (scheme_superkey n ds scheme)
-tried_superkey n ds scheme k greedy low m (suc left) e =
-    let later = tried_superkey n ds scheme k greedy low (m + 1) left (omega arith) in
-    let within : IsSubset (tried_from scheme k m) scheme = λ (j : ℕ) h. grind (arith, nat_tests, greedy.within j) in
-    elim (cases_Bool (k m)) [
-      | inl kept ↦ superkey_more n ds scheme (tried_from scheme k (m + 1)) (tried_from scheme k m) (tried_kept scheme k m kept) within later
-      | inr left_out ↦ elim (cases_Bool (scheme m)) [
-        | inl member ↦ superkey_more n ds scheme (left_without scheme k m) (tried_from scheme k m) (λ (j : ℕ) h. grind (arith, nat_tests)) within ((greedy.left_out m member).0 left_out)
-        | inr outside ↦ superkey_more n ds scheme (tried_from scheme k (m + 1)) (tried_from scheme k m) (tried_outside scheme k m outside) within later
-      ]
-    ]
-
 pub greedy_is_key : (n : ℕ) (ds : List Dependency) (scheme k : Attributes) → IsSubset scheme (below n) → IsGreedyKey n ds scheme k → IsKey n ds scheme k
 greedy_is_key n ds scheme k low greedy = record {
-  superkey = superkey_more n ds scheme (tried_from scheme k 0) k (λ (j : ℕ) h. grind (arith, nat_tests)) greedy.within (tried_superkey n ds scheme k greedy low 0 n (omega arith));
-  minimal = λ j inside superkey a in_k. elim (cases_Bool (j a)) [
-    | inl in_j ↦ in_j
-    | inr out ↦
-        let beside : IsSubset j (left_without scheme k a) = λ (i : ℕ) m. elim (cases_eq i a) [
-          | inl same ↦ absurd (true≢false (sym m ∙ ap j same ∙ out))
-          | inr other ↦ grind (arith, nat_tests, inside i m, greedy.within i (inside i m))
-        ] in
-        let more = superkey_more n ds scheme j (left_without scheme k a) beside (λ (i : ℕ) h. grind (arith, nat_tests, greedy.within i)) superkey in
-        absurd (true≢false (sym in_k ∙ (greedy.left_out a (greedy.within a in_k)).1 more))
-  ];
+  superkey = narrowed_passes Descending (IsSuperkey n ds scheme) scheme scheme k greedy n low (scheme_superkey n ds scheme);
+  minimal = λ j inside superkey a member.
+      narrowed_minimal Descending (IsSuperkey n ds scheme) scheme scheme k greedy (superkey_more n ds scheme) j inside superkey a member
+      (greedy.within a member);
 }
+
+pub one_greedy : (bound n : ℕ) (ds : List Dependency) (scheme one other : Attributes) → IsSubset scheme (below bound)
+    → IsGreedyKey n ds scheme one → IsGreedyKey n ds scheme other → one ≡ other
+one_greedy bound n ds scheme one other low first second =
+    one_narrowed Descending (IsSuperkey n ds scheme) scheme scheme one other first second bound low
 
 -- ---- keys of a superkey, and the attributes of keys
 -- what a superkey of a scheme has for a key is a key of the scheme

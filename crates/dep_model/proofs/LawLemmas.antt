@@ -4,10 +4,8 @@ use Rattle.std.specs.Prelude.{Contains, slice_index_or}
 use Rattle.attr_sets.specs.Attributes.{Attributes, below}
 use Rattle.dep_model.specs.Tuples.{Tuple, value_at}
 use Rattle.dep_model.specs.Dependencies.{Dependency, fd, mvd, Obeys, ObeysFd}
+use Rattle.dep_model.proofs.ListLemmas.{Contains-nil}
 use Rattle.dep_model.proofs.RuleLemmas.{replication_obeyed}
-
-Contains-nil : (t : Tuple) → Contains [] t → ⊥
-Contains-nil t h = absurd (omega (arith, h.1))
 
 pub no_tuple_obeys : (n : ℕ) (d : Dependency) → Obeys n d []
 no_tuple_obeys n (fd x y) = λ t u t_in u_in agree. absurd (Contains-nil t t_in)

@@ -1,5 +1,4 @@
 mod AddressLemmas
-pub mod ColumnLemmas
 pub mod DepLemmas
 pub mod DistinctLemmas
 pub mod FailureLemmas
@@ -9,14 +8,14 @@ pub mod JoinLemmas
 pub mod KeyLemmas
 mod LawLemmas
 pub mod ListLemmas
-pub mod NameLemmas
-pub mod NumeralLemmas
+pub mod OrderedLists
+pub mod PairLemmas
 pub mod PartLemmas
 pub mod PermutationLemmas
-pub mod PlainLemmas
 pub mod PreservationLemmas
 pub mod RuleLemmas
 pub mod SchemeLemmas
+pub mod TheoryLemmas
 pub mod TupleLemmas
 pub mod TwoRowLemmas
 pub mod TwoTupleLemmas

@@ -1,18 +1,23 @@
--- Membership in lists, and in the list of a function's values.
-use Rattle.std.proofs.Common.{◌≡◌, ℕ, ◌<◌, ◌⊎◌, inl, inr, zero, suc, List, [], ◌∷◌, length, map, get_or, refl, sym, ap, ◌∙◌, arith, ◌++◌, drop, ◌+◌, Some, take, add-one, ◌||◌, ◌&&◌, ◌==◌, ◌≢◌, ◌≤◌, ◌↔◌, if◌then◌else◌}
+-- Membership in lists, in the list of a function's values, and in lists that are joined; and numbers in a row.
+use Rattle.std.proofs.Common.{◌≡◌, ℕ, ◌<◌, ◌⊎◌, inl, inr, zero, suc, List, [], ◌∷◌, length, map, get_or, refl, sym, ap, subst, ◌∙◌, arith, ◌++◌, drop, ◌+◌, Some, take, add-one}
 use Rattle.std.proofs.Math.ListN.{get_or-map}
 use Rattle.std.proofs.lemmas.List.{length-map, length_push, get_or_append_left}
-use Rattle.std.specs.Prelude.{Contains, Any}
+use Rattle.std.specs.Prelude.{All, Contains, Any}
+use Rattle.std.specs.List.{flat_map, range_with_len}
+use Rattle.std.proofs.lemmas.List.{map-id}
+use Rattle.std.proofs.lemmas.List.Elements.{Contains-append_cases, Contains-append_left, Contains-append_right, Contains-get_or}
+use Rattle.std.proofs.lemmas.List.FromFn.{map-range_with_len_more}
 use Rattle.std.specs.List.{slice_get}
 use Rattle.std.proofs.Math.Seq.{take-suc}
 use Rattle.std.proofs.lemmas.Option.{slice_get_within, get_or_from_slice_get}
-use mathlib.Core.Path.{fun_ext}
-use Rattle.attr_sets.specs.Attributes.{below}
 
 pub Contains-map : {X Y : Type 0} (f : X → Y) (xs : List X) (x : X) → Contains xs x → Contains (map f xs) (f x)
 Contains-map f xs x h =
     let short : h.0 < length (map f xs) = omega (arith, h.1, length-map xs f) in
     (h.0, short, get_or-map f xs h.0 x ∙ ap f h.2)
+
+pub Contains-nil : {X : Type 0} (x : X) → Contains {X = X} [] x → ⊥
+Contains-nil x h = absurd (omega (arith, h.1))
 
 pub Contains-head : {X : Type 0} (x : X) (xs : List X) → Contains (x ∷ xs) x
 Contains-head x xs = (0, omega arith, refl)
@@ -65,3 +70,29 @@ pub same_default : {X : Type 0} (xs : List X) (i : ℕ) (d e : X) → i < length
 same_default [] i d e l = absurd (omega (arith, l))
 same_default (x ∷ xs) zero d e l = refl
 same_default (x ∷ xs) (suc i) d e l = same_default xs i d e (omega (arith, l))
+
+-- what holds of each member holds of all
+pub All-members : {X : Type 0} (P : X → Type 0) (xs : List X) → ((x : X) → Contains xs x → P x) → All P xs
+All-members P xs each k d l = each (get_or xs k d) (Contains-get_or xs k d l)
+
+-- ---- lists that are joined
+pub flat_map-member : {X Y : Type 0} (f : X → List Y) (xs : List X) (y : Y) → Contains (flat_map f xs) y → (x : X) × Contains xs x × Contains (f x) y
+flat_map-member f [] y h = absurd (omega (arith, h.1))
+flat_map-member f (x ∷ xs) y h = elim (Contains-append_cases (f x) (flat_map f xs) y h) [
+  | inl here ↦ (x, Contains-head x xs, here)
+  | inr later ↦ let w = flat_map-member f xs y later in (w.0, Contains-later x xs w.0 w.1, w.2)
+]
+
+pub Contains-flat_map : {X Y : Type 0} (f : X → List Y) (xs : List X) (x : X) (y : Y) → Contains xs x → Contains (f x) y → Contains (flat_map f xs) y
+Contains-flat_map f [] x y x_in y_in = absurd (omega (arith, x_in.1))
+Contains-flat_map {X} {Y} f (z ∷ xs) x y x_in y_in = elim (Contains-cases z xs x x_in) [
+  | inl first ↦ Contains-append_left (f z) (flat_map f xs) y (subst (λ (w : X). Contains (f w) y) first y_in)
+  | inr later ↦ Contains-append_right (f z) (flat_map f xs) y (Contains-flat_map f xs x y later y_in)
+]
+
+-- ---- numbers in a row
+pub range_more : (n : ℕ) → range_with_len 0 (n + 1) ≡ range_with_len 0 n ++ n ∷ []
+range_more n =
+    let last : 0 + n ≡ n = omega arith in
+    sym (map-id (range_with_len 0 (n + 1))) ∙ map-range_with_len_more (λ (k : ℕ). k) 0 n n last
+    ∙ ap (λ (l : List ℕ). l ++ n ∷ []) (map-id (range_with_len 0 n))

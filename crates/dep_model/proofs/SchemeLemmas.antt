@@ -1,5 +1,5 @@
 -- Projections on a scheme, attribute by attribute, and what they obey.
-use Rattle.std.proofs.Common.{◌≡◌, ℕ, ◌+◌, ◌<◌, zero, suc, true, false, List, [], ◌∷◌, ◌++◌, length, get_or, refl, sym, ap, subst, ◌∙◌, inl, inr, arith, length-append, append-nil, ◌≤◌, Bool, if◌then◌else◌, ◌&&◌}
+use Rattle.std.proofs.Common.{◌≡◌, ℕ, ◌+◌, ◌<◌, zero, suc, true, false, List, [], ◌∷◌, ◌++◌, length, get_or, refl, sym, ap, subst, ◌∙◌, inl, inr, arith, length-append, append-nil, Bool, if◌then◌else◌}
 use Rattle.std.proofs.lemmas.Bool.{cases_Bool, cases_lt}
 use Rattle.std.proofs.lemmas.Bool.Decides.{nat_tests}
 use Rattle.std.proofs.lemmas.List.{get_or_past, get_or-map, get_or_append_left, length-map, same_lists, get_or_default}
@@ -13,7 +13,6 @@ use Rattle.dep_model.specs.Dependencies.{Dependency, ObeysFd, ObeysMvd, fd, mvd}
 use Rattle.dep_model.specs.Projections.{members_below, project_tuple, projection, IsLossless}
 use Rattle.dep_model.specs.OnSchemes.{value_in, AgreeIn, ObeysIn}
 use Rattle.dep_model.proofs.ListLemmas.{Contains-map, map-member}
-use Rattle.attr_sets.specs.Sets.{attributes}
 
 -- ---- the members of a set, ascending
 -- one attribute more

@@ -4,11 +4,17 @@ use Rattle.std.proofs.lemmas.Bool.{cases_Bool, true≢false}
 use Rattle.std.proofs.lemmas.List.{length-replicate, get_or-replicate}
 use Rattle.std.proofs.lemmas.List.FromFn.{length-map-range_with_len, get_or-map-range_with_len}
 use Rattle.std.proofs.lemmas.List.Elements.{All-nil, All-cons}
+use Rattle.std.proofs.lemmas.Fmt.{decimal_digit}
+use Rattle.std.specs.Prelude.{decimal}
 use Rattle.attr_sets.specs.Attributes.{Attributes, below, union, difference, IsSubset}
 use Rattle.dep_model.specs.Tuples.{Tuple, Relation, value_at, AgreeExactly, IsOver}
 use Rattle.dep_model.specs.Dependencies.{ObeysFd, ObeysMvd}
 use Rattle.dep_model.proofs.TwoRowLemmas.{fd_two-to, fd_two-from, mvd_two-to, mvd_two-from}
 use Rattle.dep_model.specs.TwoTuples.{zero_text, one_text, all_zeros, zeros_on, two_tuples}
+
+-- nothing in decimal
+pub decimal_zero : decimal 0 ≡ zero_text
+decimal_zero = decimal_digit 0 (omega arith)
 
 pub zero≢one : zero_text ≡ one_text → ⊥
 zero≢one e = absurd (omega (arith, ap (λ (bytes : List ℕ). get_or bytes 0 0) e))

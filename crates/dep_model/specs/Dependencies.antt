@@ -13,6 +13,10 @@ pub data Dependency : Type 0 where
 abbrev pub ObeysFd : Attributes → Attributes → Relation → Type 0
 ObeysFd x y r = (t u : Tuple) → Contains r t → Contains r u → AgreeOn x t u → AgreeOn y t u
 
+-- the rest of a scheme, beside the sides of a multivalued dependency
+abbrev pub rest_beside : Attributes → Attributes → Attributes → Attributes
+rest_beside scheme x y = difference scheme (union x y)
+
 -- for any two tuples that agree on x some tuple agrees with the first on x and y, and with the second
 -- on the rest of the scheme
 abbrev pub ObeysMvd : Attributes → Attributes → Attributes → Relation → Type 0

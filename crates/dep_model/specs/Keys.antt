@@ -1,7 +1,9 @@
 -- Superkeys, keys, closures, the blocks of the dependency basis and the parts of a scheme: for
 -- normal forms, keys and bases.
-use Rattle.std.specs.Prelude.{◌≡◌, ℕ, ◌<◌, ◌↔◌, true, false, ◌&&◌, nat_lt, if◌then◌else◌, List}
+use Rattle.std.specs.Prelude.{◌≡◌, ℕ, ◌<◌, true, List}
+use Rattle.attr_sets.specs.declared.narrowing.Direction.TheVariants.{Descending}
 use Rattle.attr_sets.specs.Attributes.{Attributes, below, only, IsSubset, IsEmpty, Disjoint}
+use Rattle.attr_sets.specs.Narrowing.{IsNarrowed}
 use Rattle.dep_model.specs.Dependencies.{Dependency, fd, mvd}
 use Rattle.dep_model.specs.Implication.{Implies}
 use Rattle.dep_model.specs.OnSchemes.{ImpliedOn}
@@ -19,16 +21,10 @@ pub record IsKey (n : ℕ) (ds : List Dependency) (scheme k : Attributes) : Type
 abbrev pub IsPrime : ℕ → List Dependency → Attributes → ℕ → Type 0
 IsPrime n ds scheme a = (k : Attributes) × IsKey n ds scheme k × (k a ≡ true)
 
--- what stands beside attribute a where the attributes of a scheme are tried from the last to the
--- first: those before a, which are still to be tried, and those after it that were kept
-abbrev pub left_without : Attributes → Attributes → ℕ → Attributes
-left_without scheme kept a k = if nat_lt k a then scheme k else (nat_lt a k && kept k)
-
 -- the key that is left where each attribute of the scheme, from the last to the first, is left out
 -- exactly where what stands beside it is still a superkey
-pub record IsGreedyKey (n : ℕ) (ds : List Dependency) (scheme k : Attributes) : Type 0 where
-  pub within : IsSubset k scheme
-  pub left_out : (a : ℕ) → scheme a ≡ true → (k a ≡ false) ↔ IsSuperkey n ds scheme (left_without scheme k a)
+abbrev pub IsGreedyKey : ℕ → List Dependency → Attributes → Attributes → Type 0
+IsGreedyKey n ds scheme k = IsNarrowed Descending (IsSuperkey n ds scheme) scheme scheme k
 
 -- attribute a is in the closure of x
 abbrev pub InClosure : ℕ → List Dependency → Attributes → ℕ → Type 0

@@ -2,9 +2,9 @@
 use Rattle.std.proofs.Common.{◌≡◌, arith, refl}
 use mathlib.Core.Path.{fun_ext}
 use Rattle.attr_sets.specs.Attributes.{Attributes, none, union, intersection, difference, IsSubset, Disjoint}
-use Rattle.dep_model.specs.declared.schema.Schema.{Schema}
+use Rattle.dep_model.specs.Theories.{Theory}
 use Rattle.dep_model.specs.Dependencies.{fd, mvd, IsWithin}
-use Rattle.dep_model.specs.Schemas.{universe_of}
+use Rattle.dep_model.specs.Theories.{universe_of}
 use Rattle.derivation.specs.Trees.{augmentation, complementation, maugmentation, transitivity, mtransitivity, Tree, step, pair}
 use Rattle.derivation.specs.Builders.{intersected_block}
 use Rattle.derivation.specs.Conclusions.{Proves}
@@ -12,7 +12,7 @@ use Rattle.attr_sets.proofs.AttributesLemmas.{same_at}
 use Rattle.derivation.proofs.ProvesLemmas.{fd_restated, mvd_restated, augmentation_proves, complementation_proves, maugmentation_proves, transitivity_proves, mtransitivity_proves}
 
 -- x -> xz and xz -> yz
-pub united_fd_proves : (s : Schema) (t u : Tree) (x y z a c : Attributes) → a ≡ x → c ≡ z → IsSubset x (universe_of s) → IsSubset z (universe_of s)
+pub united_fd_proves : (s : Theory) (t u : Tree) (x y z a c : Attributes) → a ≡ x → c ≡ z → IsSubset x (universe_of s) → IsSubset z (universe_of s)
     → Proves s t (fd x y) → Proves s u (fd x z) → Proves s (pair transitivity (step (augmentation a) u) (step (augmentation c) t)) (fd x (union y z))
 united_fd_proves s t u x y z a c a_is c_is x_in z_in first second =
     let low = step (augmentation a) u in
@@ -24,7 +24,7 @@ united_fd_proves s t u x y z a c a_is c_is x_in z_in first second =
     (augmentation_proves s t x y c (λ k m. z_in k (grind (arith, same_at c_is k, m))) first))
 
 -- x ->> xy, xy ->> z, xy ->> u - xyz, x ->> u - xyz, x ->> yz - x, and x ->> yz
-pub united_mvd_proves : (s : Schema) (t u : Tree) (x y z a b e m : Attributes) → a ≡ x → b ≡ y → e ≡ none → m ≡ intersection x (union y z)
+pub united_mvd_proves : (s : Theory) (t u : Tree) (x y z a b e m : Attributes) → a ≡ x → b ≡ y → e ≡ none → m ≡ intersection x (union y z)
     → IsWithin (universe_of s) (mvd x y) → IsWithin (universe_of s) (mvd x z) → Proves s t (mvd x y) → Proves s u (mvd x z)
     → Proves s (step (maugmentation a m) (step complementation (pair mtransitivity (step (maugmentation a a) t) (step complementation (step (maugmentation b e) u))))) (mvd x (union y z))
 united_mvd_proves s t u x y z a b e m a_is b_is e_is m_is first_in second_in first second =
@@ -50,7 +50,7 @@ united_mvd_proves s t u x y z a b e m a_is b_is e_is m_is first_in second_in fir
     top_proves
 
 -- x ->> u - w and u - w ->> t
-pub split_inside_proves : (s : Schema) (t u : Tree) (x w v p : Attributes) → IsWithin (universe_of s) (mvd x w) → IsWithin (universe_of s) (mvd v p)
+pub split_inside_proves : (s : Theory) (t u : Tree) (x w v p : Attributes) → IsWithin (universe_of s) (mvd x w) → IsWithin (universe_of s) (mvd v p)
     → Disjoint w x → Disjoint w v → Proves s t (mvd x w) → Proves s u (mvd v p) → Proves s (intersected_block (universe_of s) x w t u) (mvd x (intersection w p))
 split_inside_proves s t u x w v p first_in second_in from_x from_v first second =
     let all = universe_of s in
@@ -70,7 +70,7 @@ split_inside_proves s t u x w v p first_in second_in from_x from_v first second 
     top_proves
 
 -- x ->> u - w and u - w ->> u - vt
-pub split_outside_proves : (s : Schema) (t u : Tree) (x w v p : Attributes) → IsWithin (universe_of s) (mvd x w) → IsWithin (universe_of s) (mvd v p)
+pub split_outside_proves : (s : Theory) (t u : Tree) (x w v p : Attributes) → IsWithin (universe_of s) (mvd x w) → IsWithin (universe_of s) (mvd v p)
     → Disjoint w x → Disjoint w v → Proves s t (mvd x w) → Proves s u (mvd v p) → Proves s (intersected_block (universe_of s) x w t (step complementation u)) (mvd x (difference w p))
 split_outside_proves s t u x w v p first_in second_in from_x from_v first second =
     let other = difference (universe_of s) (union v p) in

@@ -10,12 +10,12 @@ use Rattle.std.proofs.lemmas.List.Elements.{All-contains, All-head, All-tail}
 use Rattle.attr_sets.specs.declared.set.TheConstants.{MOST_ATTRIBUTES}
 use Rattle.attr_sets.specs.Attributes.{Attributes, below, union, IsSubset, count_below}
 use Rattle.attr_sets.proofs.AttributesLemmas.{tell_subset, count_below-lt, count_below-le}
-use Rattle.dep_model.specs.declared.schema.Schema.{Schema}
+use Rattle.dep_model.specs.Theories.{Theory}
 use Rattle.dep_model.specs.Dependencies.{Dependency, fd, mvd, Obeys, functional_part, IsWithin}
 use Rattle.dep_model.specs.Implication.{Implies}
 use Rattle.dep_model.proofs.DepLemmas.{dependencies_all-from}
 use Rattle.dep_model.proofs.RuleLemmas.{reflexivity_obeyed, transitivity_obeyed, fd_union_obeyed, fd_weaker_obeyed}
-use Rattle.dep_model.specs.Schemas.{width_of, theory_of, universe_of, deps_of}
+use Rattle.dep_model.specs.Theories.{width_of, theory_of, universe_of, deps_of}
 use Rattle.derivation.specs.Trees.{Tree, leaf, step, pair, given, reflexivity, augmentation, transitivity, nodes, depth}
 use Rattle.derivation.specs.Conclusions.{Proves}
 use Rattle.derivation.specs.Chains.{IsFirstOut, Stage, first_stage, next_stage, Reaches, IsFunctionalChain}
@@ -27,7 +27,7 @@ some_fd-right : (x y : Attributes) (v w : Attributes) → ◌≡◌ {A = Option 
 some_fd-right x y v w e = cc
 
 -- one dependency is the first that leads out, and it has one right side
-pub first_out-one : (s : Schema) (c : Attributes) (j k : ℕ) (t w : Attributes) → IsFirstOut s c j t → IsFirstOut s c k w → (j ≡ k) × (t ≡ w)
+pub first_out-one : (s : Theory) (c : Attributes) (j k : ℕ) (t w : Attributes) → IsFirstOut s c j t → IsFirstOut s c k w → (j ≡ k) × (t ≡ w)
 first_out-one s c j k t w one other = elim (cases_eq j k) [
   | inl same ↦ (same, some_fd-right one.lhs t other.lhs w (sym one.given ∙ ap (slice_get (theory_of s)) same ∙ other.given))
   | inr differ ↦ elim (cases_lt j k) [
@@ -37,7 +37,7 @@ first_out-one s c j k t w one other = elim (cases_eq j k) [
 ]
 
 -- as many steps lead to one stage
-pub Reaches-one : (s : Schema) (x y : Attributes) (m : ℕ) (a b : Stage) → Reaches s x y m a → Reaches s x y m b → a ≡ b
+pub Reaches-one : (s : Theory) (x y : Attributes) (m : ℕ) (a b : Stage) → Reaches s x y m a → Reaches s x y m b → a ≡ b
 Reaches-one s x y zero a b one other = one ∙ sym other
 Reaches-one s x y (suc m) a b one other =
     let before : one.0 ≡ other.0 = Reaches-one s x y m one.0 other.0 one.3 other.3 in
@@ -46,7 +46,7 @@ Reaches-one s x y (suc m) a b one other =
     one.6 ∙ ap (λ (e : Stage). next_stage e one.1 one.2) before ∙ ap (λ (k : ℕ). next_stage other.0 k one.2) same.0 ∙ ap (λ (t : Attributes). next_stage other.0 other.1 t) same.1 ∙ sym other.6
 
 -- the stage that fewer steps led to did not hold y
-stage_before : (s : Schema) (x y : Attributes) (m n : ℕ) (a : Stage) → m < n → Reaches s x y n a → (b : Stage) × Reaches s x y m b × (IsSubset y b.closed → ⊥)
+stage_before : (s : Theory) (x y : Attributes) (m n : ℕ) (a : Stage) → m < n → Reaches s x y n a → (b : Stage) × Reaches s x y m b × (IsSubset y b.closed → ⊥)
 stage_before s x y m zero a fewer reached = absurd (omega arith)
 stage_before s x y m (suc n) a fewer reached = elim (cases_eq m n) [
   | inl same ↦ let P : ℕ → Type 0 = λ k. Reaches s x y k reached.0 in (reached.0, subst P (sym same) reached.3, reached.4)
@@ -54,13 +54,13 @@ stage_before s x y m (suc n) a fewer reached = elim (cases_eq m n) [
 ]
 
 -- the chain does not stop later
-not_later : (s : Schema) (x y : Attributes) (m n : ℕ) (a b : Stage) → Reaches s x y m a → IsSubset y a.closed → Reaches s x y n b → m < n → ⊥
+not_later : (s : Theory) (x y : Attributes) (m n : ℕ) (a b : Stage) → Reaches s x y m a → IsSubset y a.closed → Reaches s x y n b → m < n → ⊥
 not_later s x y m n a b one holds other fewer =
     let stage = stage_before s x y m n b fewer other in
     let P : Stage → Type 0 = λ e. IsSubset y e.closed in
     stage.2 (subst P (Reaches-one s x y m a stage.0 one stage.1) holds)
 
-pub chain_one : (s : Schema) (x y : Attributes) (t u : Tree) → IsFunctionalChain s x y t → IsFunctionalChain s x y u → t ≡ u
+pub chain_one : (s : Theory) (x y : Attributes) (t u : Tree) → IsFunctionalChain s x y t → IsFunctionalChain s x y u → t ≡ u
 chain_one s x y t u one other = elim (cases_eq one.steps other.steps) [
   | inl same ↦
       let P : ℕ → Type 0 = λ k. Reaches s x y k one.last in
@@ -83,33 +83,33 @@ functional_at P (fd x y ∷ ds) (suc k) v t h here = functional_at P ds k v t (A
 functional_at P (mvd x y ∷ ds) (suc k) v t h here = functional_at P ds k v t h here
 
 -- both sides of a dependency of the schema are attributes of it
-pub given_within : (s : Schema) (k : ℕ) (v t : Attributes) → slice_get (theory_of s) k ≡ Some (fd v t) → IsSubset v (universe_of s) × IsSubset t (universe_of s)
+pub given_within : (s : Theory) (k : ℕ) (v t : Attributes) → slice_get (theory_of s) k ≡ Some (fd v t) → IsSubset v (universe_of s) × IsSubset t (universe_of s)
 given_within s k v t here =
     All-contains (IsWithin (universe_of s)) (theory_of s) (fd v t) (dependencies_all-from (IsWithin (universe_of s)) (deps_of s) s.valid.deps_within)
     (k, slice_get_within (theory_of s) k (fd v t) here, get_or_from_slice_get (theory_of s) k (fd v t) (fd v t) here)
 
-pub given_proves : (s : Schema) (k : ℕ) (d : Dependency) → slice_get (theory_of s) k ≡ Some d → Proves s (leaf (given k)) d
+pub given_proves : (s : Theory) (k : ℕ) (d : Dependency) → slice_get (theory_of s) k ≡ Some d → Proves s (leaf (given k)) d
 given_proves s k d here = rw here refl
 
 -- a fact of the first stage that each step keeps
-stage_keeps : (s : Schema) (x y : Attributes) (P : Stage → Type 0) → P (first_stage x) → ((b : Stage) (k : ℕ) (t : Attributes) → P b → (IsSubset y b.closed → ⊥) → IsFirstOut s b.closed k t → P (next_stage b k t))
+stage_keeps : (s : Theory) (x y : Attributes) (P : Stage → Type 0) → P (first_stage x) → ((b : Stage) (k : ℕ) (t : Attributes) → P b → (IsSubset y b.closed → ⊥) → IsFirstOut s b.closed k t → P (next_stage b k t))
     → (m : ℕ) (a : Stage) → Reaches s x y m a → P a
 stage_keeps s x y P first next zero a reached = subst P (sym reached) first
 stage_keeps s x y P first next (suc m) a reached =
     subst P (sym reached.6) (next reached.0 reached.1 reached.2 (stage_keeps s x y P first next m reached.0 reached.3) reached.4 reached.5)
 
-pub reached_grows : (s : Schema) (x y : Attributes) (m : ℕ) (a : Stage) → Reaches s x y m a → IsSubset x a.closed
+pub reached_grows : (s : Theory) (x y : Attributes) (m : ℕ) (a : Stage) → Reaches s x y m a → IsSubset x a.closed
 reached_grows s x y = stage_keeps s x y (λ a. IsSubset x a.closed) (λ k m. m) (λ b k t before _ first j m. grind (arith, before j m))
 
-pub reached_within : (s : Schema) (x y : Attributes) → IsSubset x (universe_of s) → (m : ℕ) (a : Stage) → Reaches s x y m a → IsSubset a.closed (universe_of s)
+pub reached_within : (s : Theory) (x y : Attributes) → IsSubset x (universe_of s) → (m : ℕ) (a : Stage) → Reaches s x y m a → IsSubset a.closed (universe_of s)
 reached_within s x y x_in = stage_keeps s x y (λ a. IsSubset a.closed (universe_of s)) x_in
     (λ b k t before _ first j m. grind (arith, before j, (given_within s k first.lhs t first.given).1 j, m))
 
-record IsProved (s : Schema) (x : Attributes) (a : Stage) : Type 0 where
+record IsProved (s : Theory) (x : Attributes) (a : Stage) : Type 0 where
   within : IsSubset a.closed (universe_of s)
   proves : Proves s a.tree (fd x a.closed)
 
-pub reached_proves : (s : Schema) (x y : Attributes) → IsSubset x (universe_of s) → (m : ℕ) (a : Stage) → Reaches s x y m a → Proves s a.tree (fd x a.closed)
+pub reached_proves : (s : Theory) (x y : Attributes) → IsSubset x (universe_of s) → (m : ℕ) (a : Stage) → Reaches s x y m a → Proves s a.tree (fd x a.closed)
 reached_proves s x y x_in m a reached = (stage_keeps s x y (IsProved s x) start next m a reached).proves
   where
     start : IsProved s x (first_stage x)
@@ -127,7 +127,7 @@ reached_proves s x y x_in m a reached = (stage_keeps s x y (IsProved s x) start 
         }
 
 -- by the functional dependencies alone
-pub reached_obeyed : (s : Schema) (x y : Attributes) (m : ℕ) (a : Stage) → Reaches s x y m a → Implies (width_of s) (functional_part (theory_of s)) (fd x a.closed)
+pub reached_obeyed : (s : Theory) (x y : Attributes) (m : ℕ) (a : Stage) → Reaches s x y m a → Implies (width_of s) (functional_part (theory_of s)) (fd x a.closed)
 reached_obeyed s x y = stage_keeps s x y (λ a. Implies (width_of s) (functional_part (theory_of s)) (fd x a.closed)) (λ r legal. reflexivity_obeyed x x r (λ k h. h)) next
   where
     next : (b : Stage) (k : ℕ) (t : Attributes) → Implies (width_of s) (functional_part (theory_of s)) (fd x b.closed) → (IsSubset y b.closed → ⊥) → IsFirstOut s b.closed k t
@@ -136,11 +136,11 @@ reached_obeyed s x y = stage_keeps s x y (λ a. Implies (width_of s) (functional
         let here = functional_at (λ d. Obeys (width_of s) d r) (theory_of s) k first.lhs t legal.obeys first.given in
         fd_union_obeyed x b.closed t r (before r legal) (transitivity_obeyed x b.closed t r (before r legal) (fd_weaker_obeyed first.lhs t b.closed t r first.out.inside (λ j h. h) here))
 
-pub chain_obeyed : (s : Schema) (x y : Attributes) (t : Tree) → IsFunctionalChain s x y t → Implies (width_of s) (functional_part (theory_of s)) (fd x y)
+pub chain_obeyed : (s : Theory) (x y : Attributes) (t : Tree) → IsFunctionalChain s x y t → Implies (width_of s) (functional_part (theory_of s)) (fd x y)
 chain_obeyed s x y t chain r legal =
     fd_weaker_obeyed x chain.last.closed x y r (λ k h. h) chain.holds (reached_obeyed s x y chain.steps chain.last chain.reached r legal)
 
-pub chain_proves : (s : Schema) (x y : Attributes) (t : Tree) → IsSubset x (universe_of s) → IsFunctionalChain s x y t → Proves s t (fd x y)
+pub chain_proves : (s : Theory) (x y : Attributes) (t : Tree) → IsSubset x (universe_of s) → IsFunctionalChain s x y t → Proves s t (fd x y)
 chain_proves s x y t x_in chain =
     let c = chain.last.closed in
     let last = reflexivity_proves s c y (reached_within s x y x_in chain.steps chain.last chain.reached) chain.holds in
@@ -153,7 +153,7 @@ record IsOfSteps (x : Attributes) (m : ℕ) (a : Stage) : Type 0 where
   level_bound : depth a.tree ≤ m + 2
   each_more : m + count_below x MOST_ATTRIBUTES ≤ count_below a.closed MOST_ATTRIBUTES
 
-reached_size : (s : Schema) (x y : Attributes) (m : ℕ) (a : Stage) → Reaches s x y m a → IsOfSteps x m a
+reached_size : (s : Theory) (x y : Attributes) (m : ℕ) (a : Stage) → Reaches s x y m a → IsOfSteps x m a
 reached_size s x y zero a reached = subst (IsOfSteps x zero) (sym reached) (record { nodes_are = refl; level_bound = omega arith; each_more = omega arith })
 reached_size s x y (suc m) a reached =
     let b = reached.0 in
@@ -161,7 +161,7 @@ reached_size s x y (suc m) a reached =
     let t = reached.2 in
     let first = reached.5 in
     let before = reached_size s x y m b reached.3 in
-    let t_in : IsSubset t (below MOST_ATTRIBUTES) = λ j h. grind (arith, nat_tests, (given_within s k first.lhs t first.given).1 j h, s.valid.names_within_limit) in
+    let t_in : IsSubset t (below MOST_ATTRIBUTES) = λ j h. grind (arith, nat_tests, (given_within s k first.lhs t first.given).1 j h, s.valid.within_limit) in
     let more : count_below b.closed MOST_ATTRIBUTES < count_below (union b.closed t) MOST_ATTRIBUTES = elim (tell_subset MOST_ATTRIBUTES t b.closed t_in) [
       | inl new ↦ count_below-lt MOST_ATTRIBUTES b.closed (union b.closed t) new.0 (λ j h. grind (arith, h)) new.1 new.3 (grind (arith, new.2))
       | inr all ↦ absurd (first.out.beyond all)
@@ -172,7 +172,7 @@ reached_size s x y (suc m) a reached =
       each_more = omega (arith, before.each_more, more);
     })
 
-pub chain_small : (s : Schema) (x y : Attributes) (t : Tree) → IsFunctionalChain s x y t → (nodes t ≤ 3 * MOST_ATTRIBUTES + 3) × (depth t ≤ MOST_ATTRIBUTES + 3)
+pub chain_small : (s : Theory) (x y : Attributes) (t : Tree) → IsFunctionalChain s x y t → (nodes t ≤ 3 * MOST_ATTRIBUTES + 3) × (depth t ≤ MOST_ATTRIBUTES + 3)
 chain_small s x y t chain =
     let size = reached_size s x y chain.steps chain.last chain.reached in
     let within_limit : chain.steps ≤ MOST_ATTRIBUTES = omega (arith, size.each_more, count_below-le MOST_ATTRIBUTES chain.last.closed) in

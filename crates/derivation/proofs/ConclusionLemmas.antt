@@ -1,7 +1,7 @@
 -- What a tree concludes, after any number of nodes, is the one dependency that it proves.
 use Rattle.std.proofs.Common.{◌≡◌, ℕ, ◌+◌, ◌<◌, ◌≤◌, ◌⊎◌, inl, inr, ⊎_elim, refl, sym, ◌∙◌, ap, arith}
 use Rattle.std.specs.Prelude.{Result, Ok, Err}
-use Rattle.dep_model.specs.declared.schema.Schema.{Schema}
+use Rattle.dep_model.specs.Theories.{Theory}
 use Rattle.dep_model.specs.Dependencies.{Dependency}
 use Rattle.derivation.specs.declared.fault.Fault.{Fault}
 use Rattle.derivation.specs.declared.fault.FaultKind.{FaultKind}
@@ -19,7 +19,7 @@ bind_ok : {A B : Type 0} (r : Result A Fault) (f : A → Result B Fault) (y : B)
 bind_ok (Ok x) f y h = (x, refl, h)
 bind_ok (Err e) f y h = cc
 
-pub conclusion_after-proves : (s : Schema) (before : ℕ) (t : Tree) (d : Dependency) → conclusion_after s before t ≡ Ok d → Proves s t d
+pub conclusion_after-proves : (s : Theory) (before : ℕ) (t : Tree) (d : Dependency) → conclusion_after s before t ≡ Ok d → Proves s t d
 conclusion_after-proves s before (leaf rule) d h = at_node-ok (before + 1) (leaf_conclusion s rule) d h
 conclusion_after-proves s before (step rule t) d h =
     let first = bind_ok (conclusion_after s before t) (λ x. at_node (before + nodes t + 1) (step_conclusion s rule x)) d h in
@@ -35,14 +35,14 @@ conclusion_after-proves s before (pair rule t u) d h =
       at_node-ok at_root (pair_conclusion rule first.0 second.0) d second.2,
     )
 
-pub conclusion_after-from : (s : Schema) (before : ℕ) (t : Tree) (d : Dependency) → Proves s t d → conclusion_after s before t ≡ Ok d
+pub conclusion_after-from : (s : Theory) (before : ℕ) (t : Tree) (d : Dependency) → Proves s t d → conclusion_after s before t ≡ Ok d
 conclusion_after-from s before (leaf rule) d proves = rw proves refl
 conclusion_after-from s before (step rule t) d proves = rw (conclusion_after-from s before t proves.0 proves.1, proves.2) refl
 conclusion_after-from s before (pair rule t u) d proves =
     rw (conclusion_after-from s before t proves.0 proves.2, conclusion_after-from s (before + nodes t) u proves.1 proves.3, proves.4) refl
 
 -- a tree proves one dependency at most
-pub Proves-one : (s : Schema) (t : Tree) (d e : Dependency) → Proves s t d → Proves s t e → d ≡ e
+pub Proves-one : (s : Theory) (t : Tree) (d e : Dependency) → Proves s t d → Proves s t e → d ≡ e
 Proves-one s t d e first second = the_ok d e (sym (conclusion_after-from s 0 t d first) ∙ conclusion_after-from s 0 t e second)
 
 -- ---- a fault
@@ -55,7 +55,7 @@ bind_err : {A B : Type 0} (r : Result A Fault) (f : A → Result B Fault) (e : F
 bind_err (Ok x) f e h = inr (x, refl, h)
 bind_err (Err d) f e h = inl (cc)
 
-pub conclusion_after-fault : (s : Schema) (before : ℕ) (t : Tree) (f : Fault) → conclusion_after s before t ≡ Err f → (before < f.node) × (f.node ≤ before + nodes t)
+pub conclusion_after-fault : (s : Theory) (before : ℕ) (t : Tree) (f : Fault) → conclusion_after s before t ≡ Err f → (before < f.node) × (f.node ≤ before + nodes t)
 conclusion_after-fault s before (leaf rule) f h = let at_root = at_node-err (before + 1) (leaf_conclusion s rule) f h in (omega arith, omega arith)
 conclusion_after-fault s before (step rule t) f h =
     ⊎_elim

@@ -2,7 +2,7 @@
 use Rattle.std.proofs.Common.{◌≡◌, ◌⊎◌, ◌+◌, ◌<◌, ◌≤◌, inl, inr, ⊎_elim, refl, sym, ◌∙◌, ap, subst, arith}
 use Rattle.std.specs.Prelude.{Option, None, Some, Result, Ok, Err}
 use Rattle.dep_model.specs.declared.dep.Dep.{Dep}
-use Rattle.dep_model.specs.declared.schema.Schema.{Schema}
+use Rattle.dep_model.specs.Theories.{Theory}
 use Rattle.dep_model.specs.Dependencies.{Dependency}
 use Rattle.dep_model.specs.Deps.{dependency_of}
 use Rattle.derivation.specs.declared.fault.FaultKind.{FaultKind}
@@ -60,11 +60,11 @@ pub IsIn-trans : (v u t : Tree) → IsIn v u → IsIn u t → IsIn v t
 IsIn-trans v u t first second = ⊎_elim (λ same. subst (λ (w : Tree). IsIn w t) (sym same) second) (λ below. inr (below_part v u t below second)) first
 
 -- a part of a direct tree is direct
-pub part_direct : (s : Schema) (u t : Tree) → IsIn u t → IsDirect s t → IsDirect s u
+pub part_direct : (s : Theory) (u t : Tree) → IsIn u t → IsDirect s t → IsDirect s u
 part_direct s u t inside direct v part = direct v (IsIn-trans v u t part inside)
 
 -- ---- the smallest part
-pub least_direct : (s : Schema) (t : Tree) (result : Concluded) → ((u : Tree) → IsBelow u t → IsDirect s u) → IsLeastPart s t result → IsDirect s (tree_of result.deriv.value)
+pub least_direct : (s : Theory) (t : Tree) (result : Concluded) → ((u : Tree) → IsBelow u t → IsDirect s u) → IsLeastPart s t result → IsDirect s (tree_of result.deriv.value)
 least_direct s t result direct least =
     let r = tree_of result.deriv.value in
     ⊎_elim
@@ -83,7 +83,7 @@ least_direct s t result direct least =
 
 -- ---- what a rule concludes from what its premises conclude
 
-pub step_only : (s : Schema) (rule : Step) (t : Tree) (from : Dep) (r : Result Dep FaultKind) (o : Option Dep) → ConcludesOnly s t (Some from) → outcome_of r ≡ step_conclusion s rule (dependency_of from)
+pub step_only : (s : Theory) (rule : Step) (t : Tree) (from : Dep) (r : Result Dep FaultKind) (o : Option Dep) → ConcludesOnly s t (Some from) → outcome_of r ≡ step_conclusion s rule (dependency_of from)
     → ((d : Dep) → r ≡ Ok d → o ≡ Some d) → ((k : FaultKind) → r ≡ Err k → o ≡ None) → ConcludesOnly s (step rule t) o
 step_only s rule t from (Ok e) o only exact is not = rw (is e refl) (dependency_of from, only, sym exact)
 step_only s rule t from (Err k) o only exact is not = rw (not k refl) (λ d proves.
@@ -91,7 +91,7 @@ step_only s rule t from (Err k) o only exact is not = rw (not k refl) (λ d prov
     let here : step_conclusion s rule (dependency_of from) ≡ Ok d = ap (step_conclusion s rule) (sym same) ∙ proves.2 in
     cc)
 
-pub pair_only : (s : Schema) (rule : Pair) (t u : Tree) (one other : Dep) (r : Result Dep FaultKind) (o : Option Dep) → ConcludesOnly s t (Some one) → ConcludesOnly s u (Some other)
+pub pair_only : (s : Theory) (rule : Pair) (t u : Tree) (one other : Dep) (r : Result Dep FaultKind) (o : Option Dep) → ConcludesOnly s t (Some one) → ConcludesOnly s u (Some other)
     → outcome_of r ≡ pair_conclusion rule (dependency_of one) (dependency_of other)
     → ((d : Dep) → r ≡ Ok d → o ≡ Some d) → ((k : FaultKind) → r ≡ Err k → o ≡ None) → ConcludesOnly s (pair rule t u) o
 pair_only s rule t u one other (Ok e) o first second exact is not = rw (is e refl) (dependency_of one, dependency_of other, first, second, sym exact)
@@ -104,7 +104,7 @@ pair_only s rule t u one other (Err k) o first second exact is not = rw (not k r
 
 -- ---- what a search finds
 -- the smallest part of a premise that concludes d is that of the whole tree: the whole is larger
-pub found_step : (s : Schema) (rule : Step) (t : Tree) (d : Dependency) (u : Tree) → IsLeast s t d u → IsLeast s (step rule t) d u
+pub found_step : (s : Theory) (rule : Step) (t : Tree) (d : Dependency) (u : Tree) → IsLeast s t d u → IsLeast s (step rule t) d u
 found_step s rule t d u found = record {
   part = inr found.part;
   proves = found.proves;
@@ -116,7 +116,7 @@ found_step s rule t d u found = record {
 }
 
 -- in either premise, where none in the premises is smaller
-found_pair : (s : Schema) (rule : Pair) (t w : Tree) (d : Dependency) (u : Tree) → IsIn u t ⊎ IsIn u w → Proves s u d → ((v : Tree) → IsIn v t → Proves s v d → nodes u ≤ nodes v)
+found_pair : (s : Theory) (rule : Pair) (t w : Tree) (d : Dependency) (u : Tree) → IsIn u t ⊎ IsIn u w → Proves s u d → ((v : Tree) → IsIn v t → Proves s v d → nodes u ≤ nodes v)
     → ((v : Tree) → IsIn v w → Proves s v d → nodes u ≤ nodes v) → IsLeast s (pair rule t w) d u
 found_pair s rule t w d u part proves left right = record {
   part = inr part;
@@ -130,14 +130,14 @@ found_pair s rule t w d u part proves left right = record {
       inside;
 }
 
-pub found_first : (s : Schema) (rule : Pair) (t w : Tree) (d : Dependency) (u : Tree) → IsLeast s t d u → ((v : Tree) → IsIn v w → Proves s v d → nodes u ≤ nodes v) → IsLeast s (pair rule t w) d u
+pub found_first : (s : Theory) (rule : Pair) (t w : Tree) (d : Dependency) (u : Tree) → IsLeast s t d u → ((v : Tree) → IsIn v w → Proves s v d → nodes u ≤ nodes v) → IsLeast s (pair rule t w) d u
 found_first s rule t w d u found rest = found_pair s rule t w d u (inl found.part) found.proves found.least rest
 
-pub found_second : (s : Schema) (rule : Pair) (t w : Tree) (d : Dependency) (u : Tree) → IsLeast s w d u → ((v : Tree) → IsIn v t → Proves s v d → nodes u ≤ nodes v) → IsLeast s (pair rule t w) d u
+pub found_second : (s : Theory) (rule : Pair) (t w : Tree) (d : Dependency) (u : Tree) → IsLeast s w d u → ((v : Tree) → IsIn v t → Proves s v d → nodes u ≤ nodes v) → IsLeast s (pair rule t w) d u
 found_second s rule t w d u found rest = found_pair s rule t w d u (inr found.part) found.proves rest found.least
 
 -- the whole tree, where no node below its root concludes what is sought
-pub found_whole : (s : Schema) (t u : Tree) (d : Dependency) → u ≡ t → Proves s t d → NoneBelow s t d → IsLeast s t d u
+pub found_whole : (s : Theory) (t u : Tree) (d : Dependency) → u ≡ t → Proves s t d → NoneBelow s t d → IsLeast s t d u
 found_whole s t u d same proves none = record {
   part = inl same;
   proves = subst (λ (v : Tree). Proves s v d) (sym same) proves;
@@ -148,12 +148,12 @@ found_whole s t u d same proves none = record {
       inside;
 }
 
-pub none_found : (s : Schema) (t : Tree) (d : Dependency) → (Proves s t d → ⊥) → NoneBelow s t d → (u : Tree) → IsIn u t → Proves s u d → ⊥
+pub none_found : (s : Theory) (t : Tree) (d : Dependency) → (Proves s t d → ⊥) → NoneBelow s t d → (u : Tree) → IsIn u t → Proves s u d → ⊥
 none_found s t d root none u inside proves =
     ⊎_elim (λ same. root (subst (λ (v : Tree). Proves s v d) same proves)) (λ below. none u below proves) inside
 
 -- what was found is the smallest part of what was searched for the conclusion of the whole
-pub least_part : (s : Schema) (t whole : Tree) (dep : Dep) (u : Concluded) → whole ≡ t → Proves s t (dependency_of dep) → u.dep ≡ Some dep → IsLeast s whole (dependency_of dep) (tree_of u.deriv.value) → IsLeastPart s t u
+pub least_part : (s : Theory) (t whole : Tree) (dep : Dep) (u : Concluded) → whole ≡ t → Proves s t (dependency_of dep) → u.dep ≡ Some dep → IsLeast s whole (dependency_of dep) (tree_of u.deriv.value) → IsLeastPart s t u
 least_part s t whole dep u same proves is found =
     let r = tree_of u.deriv.value in
     let least : IsLeast s t (dependency_of dep) r = subst (λ (v : Tree). IsLeast s v (dependency_of dep) r) same found in
@@ -168,13 +168,13 @@ least_part s t whole dep u same proves is found =
     }
 
 -- ---- what a shortened premise gives
-pub below_step_direct : (s : Schema) (rule : Step) (t : Tree) → IsDirect s t → (u : Tree) → IsBelow u (step rule t) → IsDirect s u
+pub below_step_direct : (s : Theory) (rule : Step) (t : Tree) → IsDirect s t → (u : Tree) → IsBelow u (step rule t) → IsDirect s u
 below_step_direct s rule t direct u below = part_direct s u t below direct
 
-pub below_pair_direct : (s : Schema) (rule : Pair) (t w : Tree) → IsDirect s t → IsDirect s w → (u : Tree) → IsBelow u (pair rule t w) → IsDirect s u
+pub below_pair_direct : (s : Theory) (rule : Pair) (t w : Tree) → IsDirect s t → IsDirect s w → (u : Tree) → IsBelow u (pair rule t w) → IsDirect s u
 below_pair_direct s rule t w first second u below = ⊎_elim (λ left. part_direct s u t left first) (λ right. part_direct s u w right second) below
 
-pub shortened_step : (s : Schema) (rule : Step) (whole t : Tree) (from result : Concluded) → whole ≡ step rule t → IsShortened s t from → IsLeastPart s (step rule (tree_of from.deriv.value)) result → IsShortened s whole result
+pub shortened_step : (s : Theory) (rule : Step) (whole t : Tree) (from result : Concluded) → whole ≡ step rule t → IsShortened s t from → IsLeastPart s (step rule (tree_of from.deriv.value)) result → IsShortened s whole result
 shortened_step s rule whole t from result is old least =
     let r = tree_of result.deriv.value in
     let made = step rule (tree_of from.deriv.value) in
@@ -189,7 +189,7 @@ shortened_step s rule whole t from result is old least =
       direct = least_direct s made result (below_step_direct s rule (tree_of from.deriv.value) old.direct) least;
     })
 
-pub shortened_pair : (s : Schema) (rule : Pair) (whole t w : Tree) (first second result : Concluded) → whole ≡ pair rule t w → IsShortened s t first → IsShortened s w second
+pub shortened_pair : (s : Theory) (rule : Pair) (whole t w : Tree) (first second result : Concluded) → whole ≡ pair rule t w → IsShortened s t first → IsShortened s w second
     → IsLeastPart s (pair rule (tree_of first.deriv.value) (tree_of second.deriv.value)) result → IsShortened s whole result
 shortened_pair s rule whole t w first second result is left right least =
     let r = tree_of result.deriv.value in
@@ -208,5 +208,5 @@ shortened_pair s rule whole t w first second result is left right least =
     })
 
 -- a shortened tree, as one that concludes what is beside it
-pub as_concluded : (s : Schema) (t : Tree) (result : Concluded) → IsShortened s t result → IsConcluded s (tree_of result.deriv.value) result
+pub as_concluded : (s : Theory) (t : Tree) (result : Concluded) → IsShortened s t result → IsConcluded s (tree_of result.deriv.value) result
 as_concluded s t result short = record { same = refl; only = short.only }

@@ -11,10 +11,10 @@ use Rattle.attr_sets.specs.declared.set.TheConstants.{MOST_ATTRIBUTES}
 use Rattle.attr_sets.specs.Attributes.{Attributes, below, union, intersection, difference, IsSubset, Disjoint}
 use Rattle.attr_sets.specs.Sets.{is_subset, is_same, is_disjoint}
 use Rattle.attr_sets.proofs.AttributesLemmas.{all_below-true}
-use Rattle.dep_model.specs.declared.schema.Schema.{Schema}
+use Rattle.dep_model.specs.Theories.{Theory}
 use Rattle.dep_model.specs.Tuples.{Tuple, Relation, IsOver, AgreeOn}
 use Rattle.dep_model.specs.Dependencies.{Dependency, fd, mvd, Obeys, ObeysFd, ObeysMvd}
-use Rattle.dep_model.specs.Schemas.{width_of, theory_of, universe_of, LegalFor, ImpliedBy}
+use Rattle.dep_model.specs.Theories.{width_of, theory_of, universe_of, LegalFor, ImpliedBy}
 use Rattle.dep_model.proofs.RuleLemmas.{reflexivity_obeyed, augmentation_obeyed, transitivity_obeyed, complementation_obeyed, mreflexivity_obeyed, maugmentation_obeyed, replication_obeyed, mtransitivity_obeyed, coalescence_obeyed}
 use Rattle.dep_model.proofs.TupleLemmas.{IsOver-length}
 use Rattle.derivation.specs.declared.fault.FaultKind.TheVariants.{NoSuchGiven, NotWithin, MiddleDiffers, NotDisjoint}
@@ -97,7 +97,7 @@ SameBelow-refl : (n : ℕ) (x : Attributes) → SameBelow n x x
 SameBelow-refl n x k low = refl
 
 -- ---- each rule, on any sets
-pub leaf_sound : (s : Schema) (r : Relation) → LegalFor s r → (rule : Leaf) (d : Dependency) → leaf_conclusion s rule ≡ Ok d → Obeys (width_of s) d r
+pub leaf_sound : (s : Theory) (r : Relation) → LegalFor s r → (rule : Leaf) (d : Dependency) → leaf_conclusion s rule ≡ Ok d → Obeys (width_of s) d r
 leaf_sound s r legal (given k) d h =
     let found = some_of_ok (slice_get (theory_of s) k) NoSuchGiven d h in
     All-contains (λ (e : Dependency). Obeys (width_of s) e r) (theory_of s) d legal.obeys
@@ -105,13 +105,13 @@ leaf_sound s r legal (given k) d h =
 leaf_sound s r legal (reflexivity x y) d h =
     let n = width_of s in
     let passed = cond-ok (is_subset x (universe_of s) && is_subset y x) NotWithin (fd x y) d h in
-    let inside = is_within-restrict_below n y x s.valid.names_within_limit (and_parts (is_subset x (universe_of s)) (is_subset y x) passed.0).1 in
+    let inside = is_within-restrict_below n y x s.valid.within_limit (and_parts (is_subset x (universe_of s)) (is_subset y x) passed.0).1 in
     let P : Dependency → Type 0 = λ e. Obeys n e r in
     subst P passed.1 (fd_same n (restrict_below n x) (restrict_below n y) x y r legal.over (restrict_below-back n x) (restrict_below-back n y) (reflexivity_obeyed (restrict_below n x) (restrict_below n y) r inside))
 leaf_sound s r legal (mreflexivity x y) d h =
     let n = width_of s in
     let passed = cond-ok (is_subset x (universe_of s) && is_subset y x) NotWithin (mvd x y) d h in
-    let inside = is_within-restrict_below n y x s.valid.names_within_limit (and_parts (is_subset x (universe_of s)) (is_subset y x) passed.0).1 in
+    let inside = is_within-restrict_below n y x s.valid.within_limit (and_parts (is_subset x (universe_of s)) (is_subset y x) passed.0).1 in
     let P : Dependency → Type 0 = λ e. Obeys n e r in
     subst P passed.1 (mvd_below n (restrict_below n x) (restrict_below n y) x y r legal.over (restrict_below-back n x) (restrict_below-back n y) (mreflexivity_obeyed (below n) (restrict_below n x) (restrict_below n y) r inside))
 
@@ -122,7 +122,7 @@ maugmentation_sound n r x y w z within_limit over narrow obeys =
     (λ k low. ap (λ b. y k || b) (restrict_below-back n z k low))
     (maugmentation_obeyed (below n) x y (restrict_below n w) (restrict_below n z) r (is_within-restrict_below n z w within_limit narrow) (restrict_below-within n w) obeys)
 
-pub step_sound : (s : Schema) (r : Relation) → LegalFor s r → (rule : Step) (x d : Dependency) → Obeys (width_of s) x r → step_conclusion s rule x ≡ Ok d → Obeys (width_of s) d r
+pub step_sound : (s : Theory) (r : Relation) → LegalFor s r → (rule : Step) (x d : Dependency) → Obeys (width_of s) x r → step_conclusion s rule x ≡ Ok d → Obeys (width_of s) d r
 step_sound s r legal (augmentation z) (fd x y) d obeys h =
     let P : Dependency → Type 0 = λ e. Obeys (width_of s) e r in
     subst P (cond-ok (is_subset z (universe_of s)) NotWithin (fd (union x z) (union y z)) d h).1 (augmentation_obeyed x y z r obeys)
@@ -135,7 +135,7 @@ step_sound s r legal (maugmentation w z) (fd x y) d obeys h = cc
 step_sound s r legal (maugmentation w z) (mvd x y) d obeys h =
     let passed = cond-ok (is_subset w (universe_of s) && is_subset z w) NotWithin (mvd (union x w) (union y z)) d h in
     let P : Dependency → Type 0 = λ e. Obeys (width_of s) e r in
-    subst P passed.1 (maugmentation_sound (width_of s) r x y w z s.valid.names_within_limit legal.over (and_parts (is_subset w (universe_of s)) (is_subset z w) passed.0).1 obeys)
+    subst P passed.1 (maugmentation_sound (width_of s) r x y w z s.valid.within_limit legal.over (and_parts (is_subset w (universe_of s)) (is_subset z w) passed.0).1 obeys)
 step_sound s r legal replication (fd x y) d obeys h =
     let P : Dependency → Type 0 = λ e. Obeys (width_of s) e r in
     subst P (the_ok (mvd x y) d h) (replication_obeyed (universe_of s) x y r obeys)
@@ -159,33 +159,33 @@ coalescence_sound n r x y z w within_limit over inside apart first second =
     (mvd_below n x y x (restrict_below n y) r over (SameBelow-refl n x) (restrict_below-same n y) first)
     (fd_same n z w (restrict_below n z) (restrict_below n w) r over (restrict_below-same n z) (restrict_below-same n w) second))
 
-pub pair_sound : (s : Schema) (r : Relation) → LegalFor s r → (rule : Pair) (x y d : Dependency) → Obeys (width_of s) x r → Obeys (width_of s) y r → pair_conclusion rule x y ≡ Ok d → Obeys (width_of s) d r
+pub pair_sound : (s : Theory) (r : Relation) → LegalFor s r → (rule : Pair) (x y d : Dependency) → Obeys (width_of s) x r → Obeys (width_of s) y r → pair_conclusion rule x y ≡ Ok d → Obeys (width_of s) d r
 pair_sound s r legal transitivity (fd x y) (fd v z) d first second h =
     let passed = cond-ok (is_same y v) MiddleDiffers (fd x z) d h in
     let P : Dependency → Type 0 = λ e. Obeys (width_of s) e r in
-    subst P passed.1 (transitivity_sound (width_of s) r x y v z s.valid.names_within_limit legal.over passed.0 first second)
+    subst P passed.1 (transitivity_sound (width_of s) r x y v z s.valid.within_limit legal.over passed.0 first second)
 pair_sound s r legal transitivity (fd x y) (mvd v z) d first second h = cc
 pair_sound s r legal transitivity (mvd x y) e d first second h = cc
 pair_sound s r legal mtransitivity (mvd x y) (mvd v z) d first second h =
     let passed = cond-ok (is_same y v) MiddleDiffers (mvd x (difference z y)) d h in
     let P : Dependency → Type 0 = λ e. Obeys (width_of s) e r in
-    subst P passed.1 (mtransitivity_sound (width_of s) r x y v z s.valid.names_within_limit legal.over passed.0 first second)
+    subst P passed.1 (mtransitivity_sound (width_of s) r x y v z s.valid.within_limit legal.over passed.0 first second)
 pair_sound s r legal mtransitivity (mvd x y) (fd v z) d first second h = cc
 pair_sound s r legal mtransitivity (fd x y) e d first second h = cc
 pair_sound s r legal coalescence (mvd x y) (fd z w) d first second h =
     let passed = cond-ok_two (is_subset w y) (is_disjoint z y) NotDisjoint NotWithin (fd x w) d h in
     let P : Dependency → Type 0 = λ e. Obeys (width_of s) e r in
-    subst P passed.2 (coalescence_sound (width_of s) r x y z w s.valid.names_within_limit legal.over passed.0 passed.1 first second)
+    subst P passed.2 (coalescence_sound (width_of s) r x y z w s.valid.within_limit legal.over passed.0 passed.1 first second)
 pair_sound s r legal coalescence (mvd x y) (mvd z w) d first second h = cc
 pair_sound s r legal coalescence (fd x y) e d first second h = cc
 
 -- ---- a tree
-tree_sound : (s : Schema) (r : Relation) → LegalFor s r → (t : Tree) (d : Dependency) → Proves s t d → Obeys (width_of s) d r
+tree_sound : (s : Theory) (r : Relation) → LegalFor s r → (t : Tree) (d : Dependency) → Proves s t d → Obeys (width_of s) d r
 tree_sound s r legal (leaf rule) d proves = leaf_sound s r legal rule d proves
 tree_sound s r legal (step rule t) d proves = step_sound s r legal rule proves.0 d (tree_sound s r legal t proves.0 proves.1) proves.2
 tree_sound s r legal (pair rule t u) d proves =
     pair_sound s r legal rule proves.0 proves.1 d (tree_sound s r legal t proves.0 proves.2) (tree_sound s r legal u proves.1 proves.3) proves.4
 
 -- what a tree proves is implied
-pub proved_is_implied : (s : Schema) (t : Tree) (d : Dependency) → Proves s t d → ImpliedBy s d
+pub proved_is_implied : (s : Theory) (t : Tree) (d : Dependency) → Proves s t d → ImpliedBy s d
 proved_is_implied s t d proves r legal = tree_sound s r legal t d proves

@@ -8,9 +8,9 @@ use Rattle.attr_sets.specs.declared.set.TheConstants.{MOST_ATTRIBUTES}
 use Rattle.attr_sets.specs.Attributes.{Attributes, below, union, difference, IsSubset}
 use Rattle.attr_sets.specs.Sets.{is_subset, is_same, is_disjoint}
 use Rattle.attr_sets.proofs.AttributesLemmas.{attributes_below, is_subset-true}
-use Rattle.dep_model.specs.declared.schema.Schema.{Schema}
+use Rattle.dep_model.specs.Theories.{Theory}
 use Rattle.dep_model.specs.Dependencies.{Dependency, fd, mvd, IsWithin}
-use Rattle.dep_model.specs.Schemas.{deps_of, theory_of, universe_of}
+use Rattle.dep_model.specs.Theories.{deps_of, theory_of, universe_of}
 use Rattle.dep_model.proofs.DepLemmas.{dependencies_all-from}
 use Rattle.derivation.specs.declared.fault.FaultKind.TheVariants.{NoSuchGiven, NotWithin, MiddleDiffers, NotDisjoint}
 use Rattle.derivation.specs.declared.rule.LeafRule.{LeafRule}
@@ -60,7 +60,7 @@ tree_of-attributes (deriv.Leaf rule) = leaf_of-attributes rule
 tree_of-attributes (deriv.Step' rule p from) = (step_of-attributes rule, tree_of-attributes from)
 tree_of-attributes (deriv.Pair' rule p first q second) = (tree_of-attributes first, tree_of-attributes second)
 
-pub leaf_within : (s : Schema) (rule : Leaf) (d : Dependency) → LeafOfAttributes rule → leaf_conclusion s rule ≡ Ok d → IsWithin (universe_of s) d
+pub leaf_within : (s : Theory) (rule : Leaf) (d : Dependency) → LeafOfAttributes rule → leaf_conclusion s rule ≡ Ok d → IsWithin (universe_of s) d
 leaf_within s (given k) d own h =
     let found = some_of_ok (slice_get (theory_of s) k) NoSuchGiven d h in
     All-contains (IsWithin (universe_of s)) (theory_of s) d (dependencies_all-from (IsWithin (universe_of s)) (deps_of s) s.valid.deps_within)
@@ -76,7 +76,7 @@ leaf_within s (mreflexivity x y) d own h =
     let x_in = is_subset-true x (universe_of s) own.0 both.0 in
     subst (IsWithin (universe_of s)) passed.1 (x_in, (λ k m. x_in k (is_subset-true y x own.1 both.1 k m)))
 
-pub step_within : (s : Schema) (rule : Step) (x d : Dependency) → StepOfAttributes rule → IsWithin (universe_of s) x → step_conclusion s rule x ≡ Ok d → IsWithin (universe_of s) d
+pub step_within : (s : Theory) (rule : Step) (x d : Dependency) → StepOfAttributes rule → IsWithin (universe_of s) x → step_conclusion s rule x ≡ Ok d → IsWithin (universe_of s) d
 step_within s (augmentation z) (fd x y) d own inside h =
     let passed = cond-ok (is_subset z (universe_of s)) NotWithin (fd (union x z) (union y z)) d h in
     let z_in = is_subset-true z (universe_of s) own passed.0 in
@@ -95,7 +95,7 @@ step_within s (maugmentation w z) (mvd x y) d own inside h =
 step_within s replication (fd x y) d own inside h = subst (IsWithin (universe_of s)) (the_ok (mvd x y) d h) inside
 step_within s replication (mvd x y) d own inside h = cc
 
-pub pair_within : (s : Schema) (rule : Pair) (x y d : Dependency) → IsWithin (universe_of s) x → IsWithin (universe_of s) y → pair_conclusion rule x y ≡ Ok d → IsWithin (universe_of s) d
+pub pair_within : (s : Theory) (rule : Pair) (x y d : Dependency) → IsWithin (universe_of s) x → IsWithin (universe_of s) y → pair_conclusion rule x y ≡ Ok d → IsWithin (universe_of s) d
 pair_within s transitivity (fd x y) (fd v z) d first second h =
     subst (IsWithin (universe_of s)) (cond-ok (is_same y v) MiddleDiffers (fd x z) d h).1 (first.0, second.1)
 pair_within s transitivity (fd x y) (mvd v z) d first second h = cc
@@ -109,7 +109,7 @@ pair_within s coalescence (mvd x y) (fd z w) d first second h =
 pair_within s coalescence (mvd x y) (mvd z w) d first second h = cc
 pair_within s coalescence (fd x y) e d first second h = cc
 
-pub conclusion_within : (s : Schema) (t : Tree) (d : Dependency) → TreeOfAttributes t → Proves s t d → IsWithin (universe_of s) d
+pub conclusion_within : (s : Theory) (t : Tree) (d : Dependency) → TreeOfAttributes t → Proves s t d → IsWithin (universe_of s) d
 conclusion_within s (leaf rule) d own proves = leaf_within s rule d own proves
 conclusion_within s (step rule t) d own proves = step_within s rule proves.0 d own.0 (conclusion_within s t proves.0 own.1 proves.1) proves.2
 conclusion_within s (pair rule t u) d own proves =

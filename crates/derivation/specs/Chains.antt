@@ -2,13 +2,13 @@
 -- by `basis_proofs/Proofs`, and for the laws of `chain_laws`.
 use Rattle.std.specs.Prelude.{◌≡◌, ℕ, zero, suc, ◌<◌, Some, slice_get}
 use Rattle.attr_sets.specs.Attributes.{Attributes, union, IsSubset}
-use Rattle.dep_model.specs.declared.schema.Schema.{Schema}
+use Rattle.dep_model.specs.Theories.{Theory}
 use Rattle.dep_model.specs.Dependencies.{fd, LeadsOut}
-use Rattle.dep_model.specs.Schemas.{theory_of}
+use Rattle.dep_model.specs.Theories.{theory_of}
 use Rattle.derivation.specs.Trees.{Tree, leaf, step, pair, given, reflexivity, augmentation, transitivity}
 
 -- dependency k is the first functional one that leads out of c, and t is its right side
-pub record IsFirstOut (s : Schema) (c : Attributes) (k : ℕ) (t : Attributes) : Type 0 where
+pub record IsFirstOut (s : Theory) (c : Attributes) (k : ℕ) (t : Attributes) : Type 0 where
   pub lhs : Attributes
   pub given : slice_get (theory_of s) k ≡ Some (fd lhs t)
   pub out : LeadsOut c (fd lhs t)
@@ -32,7 +32,7 @@ next_stage a k t = record {
 }
 
 -- m steps lead to a stage, each by the first dependency that leads out of the set, and none once y is within
-abbrev pub Reaches : Schema → Attributes → Attributes → ℕ → Stage → Type 0
+abbrev pub Reaches : Theory → Attributes → Attributes → ℕ → Stage → Type 0
 Reaches s x y zero a = a ≡ first_stage x
 Reaches s x y (suc m) a =
     (b : Stage) × (k : ℕ) × (t : Attributes) × Reaches s x y m b × (IsSubset y b.closed → ⊥)
@@ -40,7 +40,7 @@ Reaches s x y (suc m) a =
 
 -- a tree is the functional chain of x -> y: steps until y is within the set, and at last the
 -- reflexivity that leaves y
-pub record IsFunctionalChain (s : Schema) (x y : Attributes) (tree : Tree) : Type 0 where
+pub record IsFunctionalChain (s : Theory) (x y : Attributes) (tree : Tree) : Type 0 where
   pub steps : ℕ
   pub last : Stage
   pub reached : Reaches s x y steps last

@@ -1,7 +1,7 @@
 -- What a tree proves, and its first fault where it proves nothing: for `conclude`, the law of
 -- soundness, certificates and all that derives.
 use Rattle.std.specs.Prelude.{◌≡◌, ℕ, ◌+◌, Result, Ok, Err}
-use Rattle.dep_model.specs.declared.schema.Schema.{Schema}
+use Rattle.dep_model.specs.Theories.{Theory}
 use Rattle.dep_model.specs.Dependencies.{Dependency}
 use Rattle.derivation.specs.declared.fault.Fault.{Fault}
 use Rattle.derivation.specs.declared.fault.FaultKind.{FaultKind}
@@ -9,7 +9,7 @@ use Rattle.derivation.specs.Trees.{Tree, leaf, step, pair, nodes}
 use Rattle.derivation.specs.Table.{leaf_conclusion, step_conclusion, pair_conclusion}
 
 -- each node's conclusion is that of the rule table over its premises' conclusions, and the root's is d
-abbrev pub Proves : Schema → Tree → Dependency → Type 0
+abbrev pub Proves : Theory → Tree → Dependency → Type 0
 Proves s (leaf rule) d = leaf_conclusion s rule ≡ Ok d
 Proves s (step rule t) d = (x : Dependency) × Proves s t x × (step_conclusion s rule x ≡ Ok d)
 Proves s (pair rule t u) d =
@@ -27,7 +27,7 @@ at_node n (Ok d) = Ok d
 at_node n (Err kind) = Err (record { node = n; kind = kind })
 
 -- what a tree concludes, or its first fault in post-order, after this many nodes
-abbrev pub conclusion_after : Schema → ℕ → Tree → Result Dependency Fault
+abbrev pub conclusion_after : Theory → ℕ → Tree → Result Dependency Fault
 conclusion_after s before (leaf rule) = at_node (before + 1) (leaf_conclusion s rule)
 conclusion_after s before (step rule t) = do
   x ← conclusion_after s before t

@@ -1,7 +1,7 @@
 -- Trees in which no node repeats what a node below it concludes: for `shorten` and `prove`. `Desk`
 -- does not cite it.
 use Rattle.std.specs.Prelude.{◌≡◌, ◌⊎◌}
-use Rattle.dep_model.specs.declared.schema.Schema.{Schema}
+use Rattle.dep_model.specs.Theories.{Theory}
 use Rattle.dep_model.specs.Dependencies.{Dependency}
 use Rattle.derivation.specs.Trees.{Tree, leaf, step, pair}
 use Rattle.derivation.specs.Conclusions.{Proves}
@@ -17,9 +17,9 @@ abbrev pub IsIn : Tree → Tree → Type 0
 IsIn u t = (u ≡ t) ⊎ IsBelow u t
 
 -- no node below the root concludes d
-abbrev pub NoneBelow : Schema → Tree → Dependency → Type 0
+abbrev pub NoneBelow : Theory → Tree → Dependency → Type 0
 NoneBelow s t d = (u : Tree) → IsBelow u t → Proves s u d → ⊥
 
 -- no node concludes what a node below it concludes
-abbrev pub IsDirect : Schema → Tree → Type 0
+abbrev pub IsDirect : Theory → Tree → Type 0
 IsDirect s t = (u : Tree) → IsIn u t → (d : Dependency) → Proves s u d → NoneBelow s u d

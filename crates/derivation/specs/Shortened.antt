@@ -1,7 +1,7 @@
 -- A tree made shorter: for `shorten` and the functions below it. `Desk` does not cite it.
 use Rattle.std.specs.Prelude.{◌≡◌, ◌<◌, ◌≤◌, ◌^◌, ◌↔◌, Option, None, Some}
 use Rattle.dep_model.specs.declared.dep.Dep.{Dep}
-use Rattle.dep_model.specs.declared.schema.Schema.{Schema}
+use Rattle.dep_model.specs.Theories.{Theory}
 use Rattle.dep_model.specs.Dependencies.{Dependency}
 use Rattle.dep_model.specs.Deps.{dependency_of}
 use Rattle.derivation.specs.declared.shortening.Concluded.{Concluded}
@@ -13,23 +13,23 @@ use Rattle.derivation.specs.Conclusions.{Proves}
 use Rattle.derivation.specs.Direct.{IsIn, IsDirect}
 
 -- a tree concludes this, or nothing
-abbrev pub ConcludesOnly : Schema → Tree → Option Dep → Type 0
+abbrev pub ConcludesOnly : Theory → Tree → Option Dep → Type 0
 ConcludesOnly s t None = (d : Dependency) → Proves s t d → ⊥
 ConcludesOnly s t (Some dep) = Proves s t (dependency_of dep)
 
 -- a derivation of this tree, beside what it concludes
-pub record IsConcluded (s : Schema) (t : Tree) (whole : Concluded) : Type 0 where
+pub record IsConcluded (s : Theory) (t : Tree) (whole : Concluded) : Type 0 where
   pub same : tree_of whole.deriv.value ≡ t
   pub only : ConcludesOnly s t whole.dep
 
 -- the smallest part of a tree that concludes d
-pub record IsLeast (s : Schema) (t : Tree) (d : Dependency) (u : Tree) : Type 0 where
+pub record IsLeast (s : Theory) (t : Tree) (d : Dependency) (u : Tree) : Type 0 where
   pub part : IsIn u t
   pub proves : Proves s u d
   pub least : (v : Tree) → IsIn v t → Proves s v d → nodes u ≤ nodes v
 
 -- the search for d in a tree found the smallest part that concludes it, or no part does
-abbrev pub IsSought : Schema → Tree → Dependency → Sought → Type 0
+abbrev pub IsSought : Theory → Tree → Dependency → Sought → Type 0
 IsSought s t d (Found b) = IsLeast s t d (tree_of b.value)
 IsSought s t d (Whole whole) = IsConcluded s t whole × ((u : Tree) → IsIn u t → Proves s u d → ⊥)
 
@@ -39,7 +39,7 @@ NodesFit (Found b) = nodes (tree_of b.value) < 2 ^ 32
 NodesFit (Whole whole) = nodes (tree_of whole.deriv.value) < 2 ^ 32
 
 -- the smallest part of a tree that concludes what the tree concludes, and nothing where it concludes nothing
-pub record IsLeastPart (s : Schema) (t : Tree) (result : Concluded) : Type 0 where
+pub record IsLeastPart (s : Theory) (t : Tree) (result : Concluded) : Type 0 where
   pub part : IsIn (tree_of result.deriv.value) t
   pub same : (d : Dependency) → Proves s t d ↔ Proves s (tree_of result.deriv.value) d
   pub only : ConcludesOnly s (tree_of result.deriv.value) result.dep
@@ -47,7 +47,7 @@ pub record IsLeastPart (s : Schema) (t : Tree) (result : Concluded) : Type 0 whe
       → nodes (tree_of result.deriv.value) ≤ nodes u
 
 -- a direct tree that concludes exactly what another does, and is no larger
-pub record IsShortened (s : Schema) (t : Tree) (result : Concluded) : Type 0 where
+pub record IsShortened (s : Theory) (t : Tree) (result : Concluded) : Type 0 where
   pub same : (d : Dependency) → Proves s t d ↔ Proves s (tree_of result.deriv.value) d
   pub only : ConcludesOnly s (tree_of result.deriv.value) result.dep
   pub node_bound : nodes (tree_of result.deriv.value) ≤ nodes t

@@ -1,16 +1,16 @@
 ghost use Rattle.std.specs.Prelude.{◌≡◌, IfOk, IfErr};
 ghost use Rattle.attr_sets.specs.Attributes.{Attributes, union, intersection, difference, Disjoint};
 ghost use Rattle.attr_sets.specs.Sets.{attributes};
-ghost use Rattle.dep_model.specs.declared.schema.Schema.{Schema};
+ghost use Rattle.dep_model.specs.Theories.{Theory};
 ghost use Rattle.dep_model.specs.Dependencies.{fd, mvd};
-ghost use Rattle.dep_model.specs.Schemas.{universe_of};
+ghost use Rattle.dep_model.specs.Theories.{universe_of};
 ghost use Rattle.derivation.specs.Derivs.{tree_of};
 ghost use Rattle.derivation.specs.Conclusions.{Proves};
 ghost use Rattle.derivation.specs.Builders.{IsLittleMore, intersected_block};
 
 use crate::{Deriv, LeafRule, PairRule, StepRule};
 use attr_sets::AttrSet;
-use dep_model::{OutOfMemory, Schema};
+use dep_model::{OutOfMemory, Theory};
 use std::alloc::Global;
 
 /// Out of memory in a call that joins two derivations, which it hands back as they were.
@@ -61,7 +61,7 @@ pub fn unite_fd(
     first: Box<Deriv>,
     second: Box<Deriv>,
 ) -> Result<Box<Deriv>, Returned>
-    ensures concludes { (s : Schema) (y : Attributes)
+    ensures concludes { (s : Theory) (y : Attributes)
         → Proves s (tree_of first.value) (fd (attributes lhs) y)
         → Proves s (tree_of second.value) (fd (attributes lhs) (attributes rhs))
         → IfOk result (λ b. Proves s (tree_of b.value) (fd (attributes lhs) (union y
@@ -89,7 +89,7 @@ pub fn unite_mvd(
     first: Box<Deriv>,
     second: Box<Deriv>,
 ) -> Result<Box<Deriv>, Returned>
-    ensures concludes { (s : Schema)
+    ensures concludes { (s : Theory)
         → Proves s (tree_of first.value) (mvd (attributes lhs) (attributes left))
         → Proves s (tree_of second.value) (mvd (attributes lhs) (attributes right))
         → IfOk result
@@ -145,7 +145,7 @@ pub fn unite_mvd(
 /// `lhs` is `X`, and `block` is `W`.
 pub fn split_inside(
     alloc: Global,
-    schema: &Schema,
+    theory: &Theory,
     lhs: AttrSet,
     block: AttrSet,
     first: Box<Deriv>,
@@ -153,9 +153,9 @@ pub fn split_inside(
 ) -> Result<Box<Deriv>, Returned>
     ensures concludes { (v t : Attributes) → Disjoint (attributes block) (attributes lhs)
         → Disjoint (attributes block) v
-        → Proves schema.now (tree_of first.value) (mvd (attributes lhs) (attributes block))
-        → Proves schema.now (tree_of second.value) (mvd v t)
-        → IfOk result (λ b. Proves schema.now (tree_of b.value) (mvd (attributes lhs) (intersection
+        → Proves theory.now (tree_of first.value) (mvd (attributes lhs) (attributes block))
+        → Proves theory.now (tree_of second.value) (mvd v t)
+        → IfOk result (λ b. Proves theory.now (tree_of b.value) (mvd (attributes lhs) (intersection
         (attributes block) t))) }
     ensures size { IfOk result (λ b.
         IsLittleMore (tree_of first.value) (tree_of second.value) (tree_of b.value)) }
@@ -164,14 +164,14 @@ pub fn split_inside(
     let Ok(room) = room_for_four(alloc) else {
         return Err(Returned { first, second });
     };
-    Ok(intersect_block(room, schema, lhs, block, first, second))
+    Ok(intersect_block(room, theory, lhs, block, first, second))
 }
 
 /// From `X ->> W` and `V ->> T`, where `W` has no member in `X` or `V`: `X ->> W - T`. `lhs` is `X`, and
 /// `block` is `W`.
 pub fn split_outside(
     alloc: Global,
-    schema: &Schema,
+    theory: &Theory,
     lhs: AttrSet,
     block: AttrSet,
     first: Box<Deriv>,
@@ -179,9 +179,9 @@ pub fn split_outside(
 ) -> Result<Box<Deriv>, Returned>
     ensures concludes { (v t : Attributes) → Disjoint (attributes block) (attributes lhs)
         → Disjoint (attributes block) v
-        → Proves schema.now (tree_of first.value) (mvd (attributes lhs) (attributes block))
-        → Proves schema.now (tree_of second.value) (mvd v t)
-        → IfOk result (λ b. Proves schema.now (tree_of b.value) (mvd (attributes lhs) (difference
+        → Proves theory.now (tree_of first.value) (mvd (attributes lhs) (attributes block))
+        → Proves theory.now (tree_of second.value) (mvd v t)
+        → IfOk result (λ b. Proves theory.now (tree_of b.value) (mvd (attributes lhs) (difference
         (attributes block) t))) }
     ensures size { IfOk result (λ b.
         IsLittleMore (tree_of first.value) (tree_of second.value) (tree_of b.value)) }
@@ -192,24 +192,24 @@ pub fn split_outside(
     };
     // V ->> U - VT, and what W shares with U - VT is W - T.
     *other = Deriv::Step(StepRule::Complementation, second);
-    Ok(intersect_block([rest, wider, lifted, top], schema, lhs, block, first, other))
+    Ok(intersect_block([rest, wider, lifted, top], theory, lhs, block, first, other))
 }
 
 // From `X ->> W` and `V ->> T`, as in `split_inside`: `X ->>` what `W` and `T` share, in the room that
 // is given.
 fn intersect_block(
     room: [Box<Deriv>; 4],
-    schema: &Schema,
+    theory: &Theory,
     lhs: AttrSet,
     block: AttrSet,
     first: Box<Deriv>,
     second: Box<Deriv>,
 ) -> Box<Deriv>
     ensures tree { tree_of result.value
-        ≡ intersected_block (universe_of schema.now) (attributes lhs) (attributes block)
+        ≡ intersected_block (universe_of theory.now) (attributes lhs) (attributes block)
         (tree_of first.value) (tree_of second.value) }
 {
-    let outside = AttrSet::full(schema.width()).difference(block);
+    let outside = AttrSet::full(theory.width()).difference(block);
     let [mut rest, mut wider, mut lifted, mut top] = room;
     // X ->> U - W, U - W ->> T, and so X ->> T without U - W.
     *rest = Deriv::Step(StepRule::Complementation, first);

@@ -4,36 +4,36 @@
 ghost use Rattle.std.specs.Prelude.{◌≡◌, ◌≤◌, ◌+◌, ◌*◌};
 ghost use Rattle.attr_sets.specs.Attributes.{Attributes, IsSubset};
 ghost use Rattle.attr_sets.specs.declared.set.TheConstants.{MOST_ATTRIBUTES};
-ghost use Rattle.dep_model.specs.declared.schema.Schema.{Schema};
+ghost use Rattle.dep_model.specs.Theories.{Theory};
 ghost use Rattle.dep_model.specs.Dependencies.{fd, functional_part};
 ghost use Rattle.dep_model.specs.Implication.{Implies};
-ghost use Rattle.dep_model.specs.Schemas.{width_of, theory_of, universe_of};
+ghost use Rattle.dep_model.specs.Theories.{width_of, theory_of, universe_of};
 ghost use Rattle.derivation.specs.Trees.{Tree, nodes, depth};
 ghost use Rattle.derivation.specs.Conclusions.{Proves};
 ghost use Rattle.derivation.specs.Chains.{IsFunctionalChain};
 
 /// A dependency has one functional chain at most.
 pub fn one_chain()
-    ensures law { (s : Schema) (x y : Attributes) (t u : Tree) → IsFunctionalChain s x y t
+    ensures law { (s : Theory) (x y : Attributes) (t u : Tree) → IsFunctionalChain s x y t
         → IsFunctionalChain s x y u → t ≡ u }
 {}
 
 /// The functional chain of a dependency proves it.
 pub fn chain_proves()
-    ensures law { (s : Schema) (x y : Attributes) (t : Tree) → IsSubset x (universe_of s)
+    ensures law { (s : Theory) (x y : Attributes) (t : Tree) → IsSubset x (universe_of s)
         → IsFunctionalChain s x y t → Proves s t (fd x y) }
 {}
 
 /// What has a functional chain is implied by the functional dependencies alone.
 pub fn chain_is_functional()
-    ensures law { (s : Schema) (x y : Attributes) (t : Tree) → IsFunctionalChain s x y t
+    ensures law { (s : Theory) (x y : Attributes) (t : Tree) → IsFunctionalChain s x y t
         → Implies (width_of s) (functional_part (theory_of s)) (fd x y) }
 {}
 
 /// A functional chain has few nodes and levels.
 pub fn chain_is_small()
-    ensures nodes { (s : Schema) (x y : Attributes) (t : Tree) → IsFunctionalChain s x y t
+    ensures nodes { (s : Theory) (x y : Attributes) (t : Tree) → IsFunctionalChain s x y t
         → nodes t ≤ 3 * MOST_ATTRIBUTES + 3 }
-    ensures levels { (s : Schema) (x y : Attributes) (t : Tree)
+    ensures levels { (s : Theory) (x y : Attributes) (t : Tree)
         → IsFunctionalChain s x y t → depth t ≤ MOST_ATTRIBUTES + 3 }
 {}

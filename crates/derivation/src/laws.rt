@@ -2,31 +2,31 @@
 //! the law; so the gate asks for its proof.
 
 ghost use Rattle.std.specs.Prelude.{◌≡◌, ℕ, ◌<◌, ◌≤◌, ◌+◌, ◌↔◌, Ok, Err};
-ghost use Rattle.dep_model.specs.declared.schema.Schema.{Schema};
+ghost use Rattle.dep_model.specs.Theories.{Theory};
 ghost use Rattle.dep_model.specs.Dependencies.{Dependency};
-ghost use Rattle.dep_model.specs.Schemas.{ImpliedBy};
+ghost use Rattle.dep_model.specs.Theories.{ImpliedBy};
 ghost use Rattle.derivation.specs.declared.fault.Fault.{Fault};
 ghost use Rattle.derivation.specs.Trees.{Tree, nodes};
 ghost use Rattle.derivation.specs.Conclusions.{Proves, conclusion_after};
 
 /// Soundness: what a tree proves is obeyed by every relation that obeys the schema's dependencies.
 pub fn soundness()
-    ensures law { (s : Schema) (t : Tree) (d : Dependency) → Proves s t d → ImpliedBy s d }
+    ensures law { (s : Theory) (t : Tree) (d : Dependency) → Proves s t d → ImpliedBy s d }
 {}
 
 /// A tree proves one dependency at most.
 pub fn one_conclusion()
-    ensures law { (s : Schema) (t : Tree) (d e : Dependency) → Proves s t d → Proves s t e → d ≡ e }
+    ensures law { (s : Theory) (t : Tree) (d e : Dependency) → Proves s t d → Proves s t e → d ≡ e }
 {}
 
 /// What a tree concludes is what it proves, wherever its nodes are counted from.
 pub fn conclusion_is_proved()
-    ensures law { (s : Schema) (before : ℕ) (t : Tree) (d : Dependency)
+    ensures law { (s : Theory) (before : ℕ) (t : Tree) (d : Dependency)
         → conclusion_after s before t ≡ Ok d ↔ Proves s t d }
 {}
 
 /// The first fault of a tree is at one of its nodes.
 pub fn fault_is_inside()
-    ensures law { (s : Schema) (before : ℕ) (t : Tree) (f : Fault) → conclusion_after s before t ≡ Err f
+    ensures law { (s : Theory) (before : ℕ) (t : Tree) (f : Fault) → conclusion_after s before t ≡ Err f
         → (before < f.node) × (f.node ≤ before + nodes t) }
 {}

@@ -1,5 +1,5 @@
 ghost use Rattle.std.specs.Prelude.{◌≡◌, ℕ, ◌<◌, ◌≤◌, ◌^◌, ◌↔◌, IsTrue};
-ghost use Rattle.dep_model.specs.declared.schema.Schema.{Schema};
+ghost use Rattle.dep_model.specs.Theories.{Theory};
 ghost use Rattle.dep_model.specs.Dependencies.{Dependency};
 ghost use Rattle.dep_model.specs.Deps.{dependency_of};
 ghost use Rattle.derivation.specs.Trees.{Tree, nodes, depth, leaf, step, pair};
@@ -11,7 +11,7 @@ ghost use Rattle.derivation.specs.Shortened.{IsLeastPart, IsShortened};
 
 use crate::table::{leaf_conclusion, pair_conclusion, step_conclusion};
 use crate::{Deriv, LeafRule, PairRule, StepRule, conclude, nodes};
-use dep_model::{Dep, Schema};
+use dep_model::{Dep, Theory};
 use std::mem;
 
 // A derivation and what it concludes, if anything.
@@ -34,57 +34,57 @@ enum Sought {
 /// the smallest part that concludes it, in which, from the leaves on, each node gives way to the
 /// smallest one below it that concludes the same. Where a derivation concludes nothing, neither does
 /// what it gives. It takes no memory.
-pub fn shorten(schema: &Schema, deriv: Box<Deriv>) -> Box<Deriv>
+pub fn shorten(theory: &Theory, deriv: Box<Deriv>) -> Box<Deriv>
     requires fits_u32 { nodes (tree_of deriv.value) < 2 ^ 32 }
-    ensures same { (d : Dependency) → Proves schema.now (tree_of deriv.value) d
-        ↔ Proves schema.now (tree_of result.value) d }
+    ensures same { (d : Dependency) → Proves theory.now (tree_of deriv.value) d
+        ↔ Proves theory.now (tree_of result.value) d }
     ensures node_bound { nodes (tree_of result.value) ≤ nodes (tree_of deriv.value) }
     ensures level_bound { depth (tree_of result.value) ≤ depth (tree_of deriv.value) }
-    ensures direct { IsDirect schema.now (tree_of result.value) }
+    ensures direct { IsDirect theory.now (tree_of result.value) }
     ensures least { (t : Tree) (d : Dependency) → IsIn t (tree_of deriv.value)
-        → Proves schema.now (tree_of deriv.value) d → Proves schema.now t d
+        → Proves theory.now (tree_of deriv.value) d → Proves theory.now t d
         → nodes (tree_of result.value) ≤ nodes t }
 {
-    match conclude(schema, &deriv) {
+    match conclude(theory, &deriv) {
         Ok(dep) => {
             let whole = Concluded {
                 deriv,
                 dep: Some(dep),
             };
-            shorten_all(schema, least_of(schema, whole).deriv).deriv
+            shorten_all(theory, least_of(theory, whole).deriv).deriv
         }
-        Err(_) => shorten_all(schema, deriv).deriv,
+        Err(_) => shorten_all(theory, deriv).deriv,
     }
 }
 
 // A direct derivation of the same: each node is the smallest part of what was made of its premises.
-fn shorten_all(schema: &Schema, deriv: Box<Deriv>) -> Concluded
+fn shorten_all(theory: &Theory, deriv: Box<Deriv>) -> Concluded
     requires fits_u32 { nodes (tree_of deriv.value) < 2 ^ 32 }
-    ensures shortened { IsShortened schema.now (tree_of deriv.value) result }
+    ensures shortened { IsShortened theory.now (tree_of deriv.value) result }
 {
     let mut root = deriv;
     match mem::replace(&mut *root, Deriv::Leaf(LeafRule::Given(0))) {
-        Deriv::Leaf(rule) => conclude_leaf(schema, root, rule),
+        Deriv::Leaf(rule) => conclude_leaf(theory, root, rule),
         Deriv::Step(rule, premise) => {
-            let from = shorten_all(schema, premise);
-            least_of(schema, conclude_step(schema, root, rule, from))
+            let from = shorten_all(theory, premise);
+            least_of(theory, conclude_step(theory, root, rule, from))
         }
         Deriv::Pair(rule, first, second) => {
-            let left = shorten_all(schema, first);
-            let right = shorten_all(schema, second);
-            least_of(schema, conclude_pair(root, rule, left, right))
+            let left = shorten_all(theory, first);
+            let right = shorten_all(theory, second);
+            least_of(theory, conclude_pair(root, rule, left, right))
         }
     }
 }
 
 // The smallest part that concludes the same.
-fn least_of(schema: &Schema, whole: Concluded) -> Concluded
+fn least_of(theory: &Theory, whole: Concluded) -> Concluded
     requires fits_u32 { nodes (tree_of whole.deriv.value) < 2 ^ 32 }
-    ensures least { (t : Tree) → IsConcluded schema.now t whole → IsLeastPart schema.now t result }
+    ensures least { (t : Tree) → IsConcluded theory.now t whole → IsLeastPart theory.now t result }
 {
     match whole.dep {
         None => whole,
-        Some(dep) => match seek(schema, whole.deriv, dep) {
+        Some(dep) => match seek(theory, whole.deriv, dep) {
             Sought::Found(deriv) => Concluded {
                 deriv,
                 dep: Some(dep),
@@ -95,33 +95,33 @@ fn least_of(schema: &Schema, whole: Concluded) -> Concluded
 }
 
 // The smallest part that concludes a dependency.
-fn seek(schema: &Schema, deriv: Box<Deriv>, sought: Dep) -> Sought
+fn seek(theory: &Theory, deriv: Box<Deriv>, sought: Dep) -> Sought
     requires fits_u32 { nodes (tree_of deriv.value) < 2 ^ 32 }
-    ensures sought { IsSought schema.now (tree_of deriv.value) (dependency_of sought) result }
+    ensures sought { IsSought theory.now (tree_of deriv.value) (dependency_of sought) result }
 {
     let mut root = deriv;
     match mem::replace(&mut *root, Deriv::Leaf(LeafRule::Given(0))) {
-        Deriv::Leaf(rule) => seek_root(conclude_leaf(schema, root, rule), sought),
+        Deriv::Leaf(rule) => seek_root(conclude_leaf(theory, root, rule), sought),
         Deriv::Step(rule, premise) => {
-            let from = seek(schema, premise, sought);
-            seek_step(schema, root, rule, from, sought)
+            let from = seek(theory, premise, sought);
+            seek_step(theory, root, rule, from, sought)
         }
         Deriv::Pair(rule, first, second) => {
-            let left = seek(schema, first, sought);
-            let right = seek(schema, second, sought);
+            let left = seek(theory, first, sought);
+            let right = seek(theory, second, sought);
             seek_pair(root, rule, left, right, sought)
         }
     }
 }
 
 // The same in a tree whose root has one premise, after the search in it.
-fn seek_step(schema: &Schema, room: Box<Deriv>, rule: StepRule, from: Sought, sought: Dep) -> Sought
-    ensures sought { (t : Tree) → IsSought schema.now t (dependency_of sought) from
-        → IsSought schema.now (step (step_of rule) t) (dependency_of sought) result }
+fn seek_step(theory: &Theory, room: Box<Deriv>, rule: StepRule, from: Sought, sought: Dep) -> Sought
+    ensures sought { (t : Tree) → IsSought theory.now t (dependency_of sought) from
+        → IsSought theory.now (step (step_of rule) t) (dependency_of sought) result }
 {
     match from {
         Sought::Found(part) => Sought::Found(part),
-        Sought::Whole(premise) => seek_root(conclude_step(schema, room, rule, premise), sought),
+        Sought::Whole(premise) => seek_root(conclude_step(theory, room, rule, premise), sought),
     }
 }
 
@@ -129,7 +129,7 @@ fn seek_step(schema: &Schema, room: Box<Deriv>, rule: StepRule, from: Sought, so
 fn seek_pair(room: Box<Deriv>, rule: PairRule, left: Sought, right: Sought, sought: Dep) -> Sought
     requires left_fits_u32 { NodesFit left }
     requires right_fits_u32 { NodesFit right }
-    ensures sought { (s : Schema) (t u : Tree) → IsSought s t (dependency_of sought) left
+    ensures sought { (s : Theory) (t u : Tree) → IsSought s t (dependency_of sought) left
         → IsSought s u (dependency_of sought) right
         → IsSought s (pair (pair_of rule) t u) (dependency_of sought) result }
 {
@@ -151,7 +151,7 @@ fn seek_pair(room: Box<Deriv>, rule: PairRule, left: Sought, right: Sought, soug
 
 // Whether a derivation concludes what is sought, where no node below its root does.
 fn seek_root(whole: Concluded, sought: Dep) -> Sought
-    ensures sought { (s : Schema) (t : Tree) → IsConcluded s t whole → NoneBelow s t (dependency_of sought)
+    ensures sought { (s : Theory) (t : Tree) → IsConcluded s t whole → NoneBelow s t (dependency_of sought)
         → IsSought s t (dependency_of sought) result }
 {
     match whole.dep {
@@ -178,21 +178,21 @@ pub fn same_dep(one: Dep, other: Dep) -> bool
 }
 
 // What a rule alone concludes, if anything.
-fn leaf_dep(schema: &Schema, rule: LeafRule) -> Option<Dep>
-    ensures only { ConcludesOnly schema.now (leaf (leaf_of rule)) result }
+fn leaf_dep(theory: &Theory, rule: LeafRule) -> Option<Dep>
+    ensures only { ConcludesOnly theory.now (leaf (leaf_of rule)) result }
 {
-    match leaf_conclusion(schema, rule) {
+    match leaf_conclusion(theory, rule) {
         Ok(dep) => Some(dep),
         Err(_) => None,
     }
 }
 
-fn step_dep(schema: &Schema, rule: StepRule, from: Option<Dep>) -> Option<Dep>
-    ensures only { (t : Tree) → ConcludesOnly schema.now t from
-        → ConcludesOnly schema.now (step (step_of rule) t) result }
+fn step_dep(theory: &Theory, rule: StepRule, from: Option<Dep>) -> Option<Dep>
+    ensures only { (t : Tree) → ConcludesOnly theory.now t from
+        → ConcludesOnly theory.now (step (step_of rule) t) result }
 {
     match from {
-        Some(premise) => match step_conclusion(schema, rule, premise) {
+        Some(premise) => match step_conclusion(theory, rule, premise) {
             Ok(dep) => Some(dep),
             Err(_) => None,
         },
@@ -201,7 +201,7 @@ fn step_dep(schema: &Schema, rule: StepRule, from: Option<Dep>) -> Option<Dep>
 }
 
 fn pair_dep(rule: PairRule, first: Option<Dep>, second: Option<Dep>) -> Option<Dep>
-    ensures only { (s : Schema) (t u : Tree) → ConcludesOnly s t first → ConcludesOnly s u second
+    ensures only { (s : Theory) (t u : Tree) → ConcludesOnly s t first → ConcludesOnly s u second
         → ConcludesOnly s (pair (pair_of rule) t u) result }
 {
     match (first, second) {
@@ -214,31 +214,31 @@ fn pair_dep(rule: PairRule, first: Option<Dep>, second: Option<Dep>) -> Option<D
 }
 
 // A rule alone, in the room of another node.
-fn conclude_leaf(schema: &Schema, room: Box<Deriv>, rule: LeafRule) -> Concluded
-    ensures concluded { IsConcluded schema.now (leaf (leaf_of rule)) result }
+fn conclude_leaf(theory: &Theory, room: Box<Deriv>, rule: LeafRule) -> Concluded
+    ensures concluded { IsConcluded theory.now (leaf (leaf_of rule)) result }
 {
     let mut deriv = room;
     *deriv = Deriv::Leaf(rule);
     Concluded {
         deriv,
-        dep: leaf_dep(schema, rule),
+        dep: leaf_dep(theory, rule),
     }
 }
 
 // A rule over a premise.
-fn conclude_step(schema: &Schema, room: Box<Deriv>, rule: StepRule, from: Concluded) -> Concluded
-    ensures concluded { (t : Tree) → IsConcluded schema.now t from
-        → IsConcluded schema.now (step (step_of rule) t) result }
+fn conclude_step(theory: &Theory, room: Box<Deriv>, rule: StepRule, from: Concluded) -> Concluded
+    ensures concluded { (t : Tree) → IsConcluded theory.now t from
+        → IsConcluded theory.now (step (step_of rule) t) result }
 {
     let mut deriv = room;
-    let dep = step_dep(schema, rule, from.dep);
+    let dep = step_dep(theory, rule, from.dep);
     *deriv = Deriv::Step(rule, from.deriv);
     Concluded { deriv, dep }
 }
 
 // A rule over two premises.
 fn conclude_pair(room: Box<Deriv>, rule: PairRule, first: Concluded, second: Concluded) -> Concluded
-    ensures concluded { (s : Schema) (t u : Tree) → IsConcluded s t first → IsConcluded s u second
+    ensures concluded { (s : Theory) (t u : Tree) → IsConcluded s t first → IsConcluded s u second
         → IsConcluded s (pair (pair_of rule) t u) result }
 {
     let mut deriv = room;

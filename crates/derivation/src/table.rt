@@ -6,13 +6,13 @@ ghost use Rattle.derivation.specs.Derivs.{leaf_of, step_of, pair_of, outcome_of}
 
 use crate::{FaultKind, LeafRule, PairRule, StepRule};
 use attr_sets::AttrSet;
-use dep_model::{Dep, Schema};
+use dep_model::{Dep, Theory};
 
 // Whether a set is within the universe.
-fn is_inside(schema: &Schema, set: AttrSet) -> bool
-    ensures inside { result ≡ is_inside schema.now (attributes set) }
+fn is_inside(theory: &Theory, set: AttrSet) -> bool
+    ensures inside { result ≡ is_inside theory.now (attributes set) }
 {
-    set.is_subset(AttrSet::full(schema.width()))
+    set.is_subset(AttrSet::full(theory.width()))
 }
 
 // Whether two sets have the same members.
@@ -30,23 +30,23 @@ fn is_disjoint(a: AttrSet, b: AttrSet) -> bool
 }
 
 /// What a rule without premises concludes.
-pub fn leaf_conclusion(schema: &Schema, rule: LeafRule) -> Result<Dep, FaultKind>
-    ensures exact { outcome_of result ≡ leaf_conclusion schema.now (leaf_of rule) }
+pub fn leaf_conclusion(theory: &Theory, rule: LeafRule) -> Result<Dep, FaultKind>
+    ensures exact { outcome_of result ≡ leaf_conclusion theory.now (leaf_of rule) }
 {
     match rule {
-        LeafRule::Given(k) => match schema.deps().get(k as usize) {
+        LeafRule::Given(k) => match theory.deps().get(k as usize) {
             Some(dep) => Ok(*dep),
             None => Err(FaultKind::NoSuchGiven),
         },
         LeafRule::Reflexivity { lhs, rhs } => {
-            if is_inside(schema, lhs) && rhs.is_subset(lhs) {
+            if is_inside(theory, lhs) && rhs.is_subset(lhs) {
                 Ok(Dep::Fd { lhs, rhs })
             } else {
                 Err(FaultKind::NotWithin)
             }
         }
         LeafRule::MReflexivity { lhs, rhs } => {
-            if is_inside(schema, lhs) && rhs.is_subset(lhs) {
+            if is_inside(theory, lhs) && rhs.is_subset(lhs) {
                 Ok(Dep::Mvd { lhs, rhs })
             } else {
                 Err(FaultKind::NotWithin)
@@ -56,12 +56,12 @@ pub fn leaf_conclusion(schema: &Schema, rule: LeafRule) -> Result<Dep, FaultKind
 }
 
 /// What a rule concludes from one premise.
-pub fn step_conclusion(schema: &Schema, rule: StepRule, premise: Dep) -> Result<Dep, FaultKind>
-    ensures exact { outcome_of result ≡ step_conclusion schema.now (step_of rule) (dependency_of premise) }
+pub fn step_conclusion(theory: &Theory, rule: StepRule, premise: Dep) -> Result<Dep, FaultKind>
+    ensures exact { outcome_of result ≡ step_conclusion theory.now (step_of rule) (dependency_of premise) }
 {
     match (rule, premise) {
         (StepRule::Augmentation { by }, Dep::Fd { lhs, rhs }) => {
-            if is_inside(schema, by) {
+            if is_inside(theory, by) {
                 Ok(Dep::Fd {
                     lhs: lhs.union(by),
                     rhs: rhs.union(by),
@@ -72,10 +72,10 @@ pub fn step_conclusion(schema: &Schema, rule: StepRule, premise: Dep) -> Result<
         }
         (StepRule::Complementation, Dep::Mvd { lhs, rhs }) => Ok(Dep::Mvd {
             lhs,
-            rhs: AttrSet::full(schema.width()).difference(lhs.union(rhs)),
+            rhs: AttrSet::full(theory.width()).difference(lhs.union(rhs)),
         }),
         (StepRule::MAugmentation { wide, narrow }, Dep::Mvd { lhs, rhs }) => {
-            if is_inside(schema, wide) && narrow.is_subset(wide) {
+            if is_inside(theory, wide) && narrow.is_subset(wide) {
                 Ok(Dep::Mvd {
                     lhs: lhs.union(wide),
                     rhs: rhs.union(narrow),

@@ -5,9 +5,9 @@ use Rattle.std.proofs.lemmas.Bool.{true≢false, cases_lt}
 use Rattle.std.proofs.lemmas.Bool.Decides.{nat_tests}
 use Rattle.std.proofs.lemmas.Option.{none-some}
 use Rattle.attr_sets.specs.Attributes.{Attributes, IsSubset}
-use Rattle.dep_model.specs.declared.schema.Schema.{Schema}
+use Rattle.schema_model.specs.Schemas.{Schema}
 use Rattle.dep_model.specs.Dependencies.{Dependency, left_of, right_of, IsWithin}
-use Rattle.dep_model.specs.Schemas.{names_of, universe_of, naming_of}
+use Rattle.schema_model.specs.Schemas.{names_of, universe_of, naming_of}
 use Rattle.derivation.specs.declared.fault.FaultKind.{FaultKind}
 use Rattle.derivation.specs.declared.measures.TheConstants.{MOST_NODES}
 use Rattle.derivation.proofs.WithinLemmas.{OfAttributes}

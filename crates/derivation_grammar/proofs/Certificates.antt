@@ -5,14 +5,14 @@ use Rattle.std.proofs.lemmas.Bool.Decides.{nat_tests}
 use Rattle.std.proofs.lemmas.List.{length-map, map-append}
 use Rattle.std.proofs.lemmas.List.Elements.{All-cons, All-head, All-tail, All-push}
 use Rattle.std.proofs.lemmas.Option.{same_Some}
-use Rattle.dep_model.specs.declared.schema.Schema.{Schema}
+use Rattle.schema_model.specs.Schemas.{Schema, theory_in}
 use Rattle.dep_model.specs.Dependencies.{Dependency}
-use Rattle.dep_model.specs.Schemas.{names_of, ImpliedBy, naming_of}
+use Rattle.schema_model.specs.Schemas.{names_of, ImpliedBy, naming_of}
 use Rattle.derivation.specs.Trees.{Tree, step, pair}
 use Rattle.derivation.specs.Table.{step_conclusion, pair_conclusion}
 use Rattle.derivation.specs.Conclusions.{Proves}
 use Rattle.derivation.proofs.ConclusionLemmas.{Proves-one}
-use Rattle.dep_model.specs.declared.naming.Naming.{Naming}
+use Rattle.schema_model.specs.declared.naming.Naming.{Naming}
 use Rattle.proof_grammar.specs.Lines.{Body, by_given, by_reflexivity, by_mreflexivity, by_step, by_pair, Line}
 use Rattle.proof_grammar.specs.Meanings.{MeanLines, certificate_lines}
 use Rattle.proof_grammar.specs.Spelling.{IsTreeAt, IsTreeOf, AreNodes, SpellsWithin}
@@ -86,7 +86,7 @@ lines_mean naming names (t ∷ ts) (l ∷ ls) mean =
 -- trees prove dependencies, one each
 abbrev AreProved : Schema → List Tree → List Dependency → Type 0
 AreProved s [] [] = Unit {0}
-AreProved s (t ∷ ts) (d ∷ ds) = Proves s t d × AreProved s ts ds
+AreProved s (t ∷ ts) (d ∷ ds) = Proves (theory_in s) t d × AreProved s ts ds
 AreProved s _ _ = ⊥
 
 proved_size : (s : Schema) (ts : List Tree) (ds : List Dependency) → AreProved s ts ds → length ts ≡ length ds
@@ -97,52 +97,52 @@ proved_size s (t ∷ ts) (d ∷ ds) are = ap suc (proved_size s ts ds are.1)
 
 proved_push : (s : Schema) (ts : List Tree) (ds : List Dependency) (t : Tree) (d : Dependency)
     → AreProved s ts ds
-    → Proves s t d → AreProved s (ts ++ t ∷ []) (ds ++ d ∷ [])
+    → Proves (theory_in s) t d → AreProved s (ts ++ t ∷ []) (ds ++ d ∷ [])
 proved_push s [] [] t d are proves = (proves, tt)
 proved_push s [] (e ∷ ds) t d are proves = absurd are
 proved_push s (u ∷ ts) [] t d are proves = absurd are
 proved_push s (u ∷ ts) (e ∷ ds) t d are proves = (are.0, proved_push s ts ds t d are.1 proves)
 
 proved_at : (s : Schema) (ts : List Tree) (ds : List Dependency) (i : ℕ) (t : Tree) → AreProved s ts ds
-    → slice_get ts i ≡ Some t → (d : Dependency) × (slice_get ds i ≡ Some d) × Proves s t d
+    → slice_get ts i ≡ Some t → (d : Dependency) × (slice_get ds i ≡ Some d) × Proves (theory_in s) t d
 proved_at s [] [] i t are at = cc
 proved_at s [] (d ∷ ds) i t are at = absurd are
 proved_at s (u ∷ ts) [] i t are at = absurd are
 proved_at s (u ∷ ts) (d ∷ ds) zero t are at =
-    (d, refl, subst (λ (v : Tree). Proves s v d) (same_Some u t at) are.0)
+    (d, refl, subst (λ (v : Tree). Proves (theory_in s) v d) (same_Some u t at) are.0)
 proved_at s (u ∷ ts) (d ∷ ds) (suc i) t are at = proved_at s ts ds i t are.1 at
 
 -- a premise states what its tree proves
 premise_stated : (s : Schema) (ts : List Tree) (ds : List Dependency) (p : ℕ) (t : Tree) (x : Dependency)
-    → AreProved s ts ds → IsTreeAt ts p t → Proves s t x → stated_at ds p ≡ Some x
+    → AreProved s ts ds → IsTreeAt ts p t → Proves (theory_in s) t x → stated_at ds p ≡ Some x
 premise_stated s ts ds p t x are at proves =
     let found = proved_at s ts ds at.before t are at.tree in
-    let same = Proves-one s t found.0 x found.2 proves in
+    let same = Proves-one (theory_in s) t found.0 x found.2 proves in
     let not_zero : (p == 0) ≡ false = grind (arith, nat_tests, at.number) in
     let place : p - 1 ≡ at.before = omega (arith, at.number) in
     rw (not_zero, place) (found.1 ∙ ap Some same)
 
 rule_states : (s : Schema) (ts : List Tree) (ds : List Dependency) (l : Line) (b : Body) (t : Tree)
     → AreProved s ts ds
-    → IsTreeOf ts l b t → Proves s t l.stated → outcome_of_rule s ds l.stated b ≡ Some (Ok l.stated)
+    → IsTreeOf ts l b t → Proves (theory_in s) t l.stated → outcome_of_rule s ds l.stated b ≡ Some (Ok l.stated)
 unfolding outcome_of_rule
 rule_states s ts ds l (by_given k) t are tree proves =
-    let concludes = subst (λ (v : Tree). Proves s v l.stated) tree.tree proves in
+    let concludes = subst (λ (v : Tree). Proves (theory_in s) v l.stated) tree.tree proves in
     let not_zero : (k == 0) ≡ false = grind (arith, nat_tests, tree.number) in
     let place : k - 1 ≡ tree.before = omega (arith, tree.number) in
     rw (not_zero, place) (ap Some concludes)
 rule_states s ts ds l by_reflexivity t are tree proves =
-    ap Some (subst (λ (v : Tree). Proves s v l.stated) tree proves)
+    ap Some (subst (λ (v : Tree). Proves (theory_in s) v l.stated) tree proves)
 rule_states s ts ds l by_mreflexivity t are tree proves =
-    ap Some (subst (λ (v : Tree). Proves s v l.stated) tree proves)
+    ap Some (subst (λ (v : Tree). Proves (theory_in s) v l.stated) tree proves)
 rule_states s ts ds l (by_step rule p) t are tree proves =
-    let concludes : Proves s (step rule tree.premise) l.stated =
-    subst (λ (v : Tree). Proves s v l.stated) tree.tree proves in
-    ap (over_one (step_conclusion s rule))
+    let concludes : Proves (theory_in s) (step rule tree.premise) l.stated =
+    subst (λ (v : Tree). Proves (theory_in s) v l.stated) tree.tree proves in
+    ap (over_one (step_conclusion (theory_in s) rule))
     (premise_stated s ts ds p tree.premise concludes.0 are tree.earlier concludes.1) ∙ ap Some concludes.2
 rule_states s ts ds l (by_pair rule p q) t are tree proves =
-    let concludes : Proves s (pair rule tree.first tree.second) l.stated =
-    subst (λ (v : Tree). Proves s v l.stated) tree.tree proves in
+    let concludes : Proves (theory_in s) (pair rule tree.first tree.second) l.stated =
+    subst (λ (v : Tree). Proves (theory_in s) v l.stated) tree.tree proves in
     let left = premise_stated s ts ds p tree.first concludes.0 are tree.first_earlier concludes.2 in
     let right = premise_stated s ts ds q tree.second concludes.1 are tree.second_earlier concludes.3 in
     ap (λ o. over_two (pair_conclusion rule) o (stated_at ds q)) left
@@ -167,7 +167,7 @@ record LastStates (s : Schema) (lines : List Line) (t : Tree) : Type 0 where
   before : List Line
   last : Line
   whole : lines ≡ before ++ last ∷ []
-  proves : Proves s t last.stated
+  proves : Proves (theory_in s) t last.stated
 
 last_states : (s : Schema) (ts : List Tree) (lines : List Line) (us : List Tree) (t : Tree)
     → AreNodes s ts lines (us ++ t ∷ []) → LastStates s lines t
@@ -185,7 +185,7 @@ last_states s ts (l ∷ ls) (u ∷ us) t nodes =
     }
 
 pub certificate_derives : (s : Schema) (text : List ℕ) (t : Tree) (d : Dependency)
-    → SpellsWithin s text t → Proves s t d
+    → SpellsWithin s text t → Proves (theory_in s) t d
     → Derives s text d
 unfolding as_lines as_line
 certificate_derives s text t d spelled proves =
@@ -201,5 +201,5 @@ certificate_derives s text t d spelled proves =
           (lines_mean (naming_of s) (names_of s) (certificate_lines (naming_of s) text) lines spelled.spells.mean);
       derived = subst (AreDerived s []) whole (nodes_derived s [] [] lines (are.before ++ t ∷ []) tt are.nodes);
       lines_fit = omega (arith, spelled.lines_fit, ap length whole, length-map lines as_line);
-      states = Proves-one s t end.last.stated d end.proves proves;
+      states = Proves-one (theory_in s) t end.last.stated d end.proves proves;
     }

@@ -3,9 +3,9 @@ use Rattle.std.proofs.Common.{◌≡◌, ◌-◌, ◌==◌, ℕ, Bool, true, fal
 use Rattle.std.specs.Prelude.{All, slice_get}
 use Rattle.std.proofs.lemmas.List.Elements.{All-contains}
 use Rattle.std.proofs.lemmas.Option.{same_Some, slice_get_within, get_or_from_slice_get}
-use Rattle.dep_model.specs.declared.schema.Schema.{Schema}
+use Rattle.schema_model.specs.Schemas.{Schema, theory_in}
 use Rattle.dep_model.specs.Dependencies.{Dependency, left_of, right_of, IsWithin}
-use Rattle.dep_model.specs.Schemas.{universe_of, ImpliedBy}
+use Rattle.schema_model.specs.Schemas.{universe_of, ImpliedBy}
 use Rattle.derivation.specs.declared.fault.FaultKind.{FaultKind}
 use Rattle.derivation.specs.declared.fault.FaultKind.TheVariants.{NoSuchGiven}
 use Rattle.derivation.specs.Trees.{given, reflexivity, mreflexivity}
@@ -44,11 +44,11 @@ over_two_some f (Some x) None r e = cc
 over_two_some f (Some x) (Some y) r e = (x, y, refl, refl, same_Some (f x y) r e)
 
 given_leaf : (s : Schema) (k : ℕ) (d : Dependency) → given_conclusion s k ≡ Ok d
-    → leaf_conclusion s (given (k - 1)) ≡ Ok d
+    → leaf_conclusion (theory_in s) (given (k - 1)) ≡ Ok d
 given_leaf s k d h = by_cases (k == 0) h
   where
-    by_cases : (b : Bool) → cond b (Err NoSuchGiven) (leaf_conclusion s (given (k - 1))) ≡ Ok d
-        → leaf_conclusion s (given (k - 1)) ≡ Ok d
+    by_cases : (b : Bool) → cond b (Err NoSuchGiven) (leaf_conclusion (theory_in s) (given (k - 1))) ≡ Ok d
+        → leaf_conclusion (theory_in s) (given (k - 1)) ≡ Ok d
     by_cases true h = cc
     by_cases false h = h
 
@@ -57,17 +57,17 @@ rule_implied : (s : Schema) (before : List Dependency) (stated : Dependency) (b 
     → All (ImpliedBy s) before → outcome_of_rule s before stated b ≡ Some (Ok d) → ImpliedBy s d
 unfolding outcome_of_rule
 rule_implied s before stated (by_given k) d all e = λ r legal.
-    leaf_sound s r legal (given (k - 1)) d (given_leaf s k d (same_Some (given_conclusion s k) (Ok d) e))
+    leaf_sound (theory_in s) r legal (given (k - 1)) d (given_leaf s k d (same_Some (given_conclusion s k) (Ok d) e))
 rule_implied s before stated by_reflexivity d all e = λ r legal.
-    leaf_sound s r legal (reflexivity (left_of stated) (right_of stated)) d (same_Some _ (Ok d) e)
+    leaf_sound (theory_in s) r legal (reflexivity (left_of stated) (right_of stated)) d (same_Some _ (Ok d) e)
 rule_implied s before stated by_mreflexivity d all e = λ r legal.
-    leaf_sound s r legal (mreflexivity (left_of stated) (right_of stated)) d (same_Some _ (Ok d) e)
+    leaf_sound (theory_in s) r legal (mreflexivity (left_of stated) (right_of stated)) d (same_Some _ (Ok d) e)
 rule_implied s before stated (by_step rule p) d all e =
-    let x = over_one_some (step_conclusion s rule) (stated_at before p) (Ok d) e in
-    λ r legal. step_sound s r legal rule x.0 d (premise_holds (ImpliedBy s) before p x.0 all x.1 r legal) x.2
+    let x = over_one_some (step_conclusion (theory_in s) rule) (stated_at before p) (Ok d) e in
+    λ r legal. step_sound (theory_in s) r legal rule x.0 d (premise_holds (ImpliedBy s) before p x.0 all x.1 r legal) x.2
 rule_implied s before stated (by_pair rule p q) d all e =
     let x = over_two_some (pair_conclusion rule) (stated_at before p) (stated_at before q) (Ok d) e in
-    λ r legal. pair_sound s r legal rule x.0 x.1 d (premise_holds (ImpliedBy s) before p x.0 all x.2 r legal)
+    λ r legal. pair_sound (theory_in s) r legal rule x.0 x.1 d (premise_holds (ImpliedBy s) before p x.0 all x.2 r legal)
     (premise_holds (ImpliedBy s) before q x.1 all x.3 r legal) x.4
 
 pub outcome_implied : (s : Schema) (before : List Dependency) (stated : Dependency) (b : DerivationBody) (d : Dependency)
@@ -76,10 +76,10 @@ unfolding outcome_of_line
 outcome_implied s before stated (by_rule b) d all e = rule_implied s before stated b d all e
 outcome_implied s before stated (by_decomposition p) d all e =
     let x = over_one_some (decomposition_conclusion stated) (stated_at before p) (Ok d) e in
-    decomposition_sound s stated x.0 d (premise_holds (ImpliedBy s) before p x.0 all x.1) x.2
+    decomposition_sound (theory_in s) stated x.0 d (premise_holds (ImpliedBy s) before p x.0 all x.1) x.2
 outcome_implied s before stated (by_further f p q) d all e =
     let x = over_two_some (further_conclusion f) (stated_at before p) (stated_at before q) (Ok d) e in
-    further_sound s f x.0 x.1 d (premise_holds (ImpliedBy s) before p x.0 all x.2)
+    further_sound (theory_in s) f x.0 x.1 d (premise_holds (ImpliedBy s) before p x.0 all x.2)
     (premise_holds (ImpliedBy s) before q x.1 all x.3) x.4
 
 -- ---- what lies within the universe
@@ -93,17 +93,17 @@ rule_within : (s : Schema) (before : List Dependency) (stated : Dependency) (b :
     → BodyOfAttributes b → outcome_of_rule s before stated b ≡ Some (Ok d) → IsWithin (universe_of s) d
 unfolding outcome_of_rule
 rule_within s before stated (by_given k) d all left right own e =
-    leaf_within s (given (k - 1)) d (tt {0}) (given_leaf s k d (same_Some (given_conclusion s k) (Ok d) e))
+    leaf_within (theory_in s) (given (k - 1)) d (tt {0}) (given_leaf s k d (same_Some (given_conclusion s k) (Ok d) e))
 rule_within s before stated by_reflexivity d all left right own e =
-    leaf_within s (reflexivity (left_of stated) (right_of stated)) d (left, right) (same_Some _ (Ok d) e)
+    leaf_within (theory_in s) (reflexivity (left_of stated) (right_of stated)) d (left, right) (same_Some _ (Ok d) e)
 rule_within s before stated by_mreflexivity d all left right own e =
-    leaf_within s (mreflexivity (left_of stated) (right_of stated)) d (left, right) (same_Some _ (Ok d) e)
+    leaf_within (theory_in s) (mreflexivity (left_of stated) (right_of stated)) d (left, right) (same_Some _ (Ok d) e)
 rule_within s before stated (by_step rule p) d all left right own e =
-    let x = over_one_some (step_conclusion s rule) (stated_at before p) (Ok d) e in
-    step_within s rule x.0 d own (premise_holds (IsWithin (universe_of s)) before p x.0 all x.1) x.2
+    let x = over_one_some (step_conclusion (theory_in s) rule) (stated_at before p) (Ok d) e in
+    step_within (theory_in s) rule x.0 d own (premise_holds (IsWithin (universe_of s)) before p x.0 all x.1) x.2
 rule_within s before stated (by_pair rule p q) d all left right own e =
     let x = over_two_some (pair_conclusion rule) (stated_at before p) (stated_at before q) (Ok d) e in
-    pair_within s rule x.0 x.1 d (premise_holds (IsWithin (universe_of s)) before p x.0 all x.2)
+    pair_within (theory_in s) rule x.0 x.1 d (premise_holds (IsWithin (universe_of s)) before p x.0 all x.2)
     (premise_holds (IsWithin (universe_of s)) before q x.1 all x.3) x.4
 
 pub outcome_within : (s : Schema) (before : List Dependency) (stated : Dependency) (b : DerivationBody) (d : Dependency)

@@ -3,15 +3,15 @@ use Rattle.std.proofs.Common.{◌≡◌, ◌<◌, ℕ, Bool, true, false, List, 
 use Rattle.std.specs.Prelude.{All}
 use Rattle.std.proofs.lemmas.List.{append-nil, length-map, map-append}
 use Rattle.std.proofs.lemmas.List.Elements.{All-push}
-use Rattle.dep_model.specs.declared.schema.Schema.{Schema}
+use Rattle.std.proofs.lemmas.Slice.Zip.{all_zipped_more}
+use Rattle.schema_model.specs.Schemas.{Schema}
 use Rattle.dep_model.specs.Dependencies.{Dependency, IsWithin}
-use Rattle.dep_model.specs.Schemas.{names_of, universe_of, naming_of}
+use Rattle.schema_model.specs.Schemas.{names_of, universe_of, naming_of}
 use Rattle.derivation.specs.declared.measures.TheConstants.{MOST_NODES}
-use Rattle.dep_model.specs.declared.naming.Naming.{Naming}
+use Rattle.schema_model.specs.declared.naming.Naming.{Naming}
 use Rattle.proof_grammar.specs.declared.line_kind.LineKind.TheVariants.{Certificate}
 use Rattle.proof_grammar.specs.Meanings.{certificate_lines_of}
-use Rattle.proof_grammar.proofs.CountedLines.{lines_to_read, Counts}
-use Rattle.proof_grammar.proofs.ReadLines.{nothing_counts}
+use Rattle.proof_grammar.proofs.CountedLines.{lines_to_read, Counts, CountOn, same_lines, count_past, one_line_more, count_after}
 use Rattle.derivation_grammar.specs.Derivations.{IsDerived, AreDerived}
 use Rattle.derivation_grammar.specs.Lines.{DerivationLine}
 use Rattle.derivation_grammar.specs.Meanings.{MeansDerivationLine, MeanDerivationLines}
@@ -35,18 +35,9 @@ derived_push s before (k ∷ ks) l are is = (
       (subst (λ (ds : List Dependency). IsDerived s ds l) (sym (append_assoc before (k.stated ∷ []) (stated_by ks))) is),
 )
 
-mean_push : (naming : Naming) (names : List (List ℕ)) (texts : List (List ℕ)) (lines : List DerivationLine) (text : List ℕ)
-    (l : DerivationLine) → MeanDerivationLines naming names texts lines → MeansDerivationLine naming names text l
-    → MeanDerivationLines naming names (texts ++ text ∷ []) (lines ++ l ∷ [])
-mean_push naming names [] [] text l mean means = (means, tt)
-mean_push naming names [] (m ∷ ms) text l mean means = absurd mean
-mean_push naming names (t ∷ ts) [] text l mean means = absurd mean
-mean_push naming names (t ∷ ts) (m ∷ ms) text l mean means = (mean.0, mean_push naming names ts ms text l mean.1 means)
-
 -- ---- after some lines
 pub record HasRead (s : Schema) (before : List (List ℕ)) (fresh : Bool) (lines : List DerivationLine) : Type 0 where
-  pub counts : (more : List (List ℕ))
-      → certificate_lines_of (naming_of s) (before ++ more) ≡ certificate_lines_of (naming_of s) before ++ lines_to_read (naming_of s) fresh more
+  pub counts : CountOn (naming_of s) before fresh
   pub mean : MeanDerivationLines (naming_of s) (names_of s) (certificate_lines_of (naming_of s) before) lines
   pub read : AreRead s lines
   pub within : All (IsWithin (universe_of s)) (stated_by lines)
@@ -64,26 +55,13 @@ pub line_passed_over : (s : Schema) (before : List (List ℕ)) (fresh next : Boo
     (here : List ℕ) → HasRead s before fresh lines
     → ((more : List (List ℕ)) → lines_to_read (naming_of s) fresh (here ∷ more) ≡ lines_to_read (naming_of s) next more)
     → HasRead s (before ++ here ∷ []) next lines
-line_passed_over s before fresh next lines here afterwards skips =
-    let so_far = certificate_lines_of (naming_of s) before in
-    let same : certificate_lines_of (naming_of s) (before ++ here ∷ []) ≡ so_far =
-    afterwards.counts (here ∷ []) ∙ ap (λ (ls : List (List ℕ)). so_far ++ ls) (skips [] ∙ nothing_counts (naming_of s) next) ∙ append-nil so_far in
-    record {
-      counts = λ more. ap (certificate_lines_of (naming_of s)) (append_assoc before (here ∷ []) more)
-          ∙ afterwards.counts (here ∷ more)
-          ∙ ap (λ (ls : List (List ℕ)). so_far ++ ls) (skips more)
-          ∙ ap (λ (ls : List (List ℕ)). ls ++ lines_to_read (naming_of s) next more) (sym same);
-      mean = subst (λ (ls : List (List ℕ)). MeanDerivationLines (naming_of s) (names_of s) ls lines) (sym same) afterwards.mean;
-      read = afterwards.read;
-      within = afterwards.within;
-    }
-
--- where a line counts, it stands after those before
-pub counts_here : (s : Schema) (before : List (List ℕ)) (fresh : Bool) (lines : List DerivationLine) (here : List ℕ)
-    → HasRead s before fresh lines → Counts (naming_of s) Certificate fresh here
-    → certificate_lines_of (naming_of s) (before ++ here ∷ []) ≡ certificate_lines_of (naming_of s) before ++ here ∷ []
-counts_here s before fresh lines here afterwards counts =
-    afterwards.counts (here ∷ []) ∙ ap (λ (ls : List (List ℕ)). certificate_lines_of (naming_of s) before ++ ls) (counts [])
+line_passed_over s before fresh next lines here afterwards skips = record {
+  counts = count_past (naming_of s) before fresh here afterwards.counts next skips;
+  mean = subst (λ (ls : List (List ℕ)). MeanDerivationLines (naming_of s) (names_of s) ls lines)
+      (sym (same_lines (naming_of s) before fresh here afterwards.counts next skips)) afterwards.mean;
+  read = afterwards.read;
+  within = afterwards.within;
+}
 
 -- a line is added
 pub one_more : (s : Schema) (before : List (List ℕ)) (fresh : Bool) (lines : List DerivationLine) (here : List ℕ)
@@ -93,15 +71,11 @@ pub one_more : (s : Schema) (before : List (List ℕ)) (fresh : Bool) (lines : L
     → length (stated_by lines) < MOST_NODES → HasRead s (before ++ here ∷ []) false (lines ++ l ∷ [])
 one_more s before fresh lines here l afterwards counts means inside is fits =
     let so_far = certificate_lines_of (naming_of s) before in
-    let whole = counts_here s before fresh lines here afterwards counts in
+    let whole = one_line_more (naming_of s) before fresh here afterwards.counts counts in
     record {
-      counts = λ more. ap (certificate_lines_of (naming_of s)) (append_assoc before (here ∷ []) more)
-          ∙ afterwards.counts (here ∷ more)
-          ∙ ap (λ (ls : List (List ℕ)). so_far ++ ls) (counts more)
-          ∙ sym (append_assoc so_far (here ∷ []) (lines_to_read (naming_of s) false more))
-          ∙ ap (λ (ls : List (List ℕ)). ls ++ lines_to_read (naming_of s) false more) (sym whole);
+      counts = count_after (naming_of s) before fresh here afterwards.counts counts;
       mean = subst (λ (ls : List (List ℕ)). MeanDerivationLines (naming_of s) (names_of s) ls (lines ++ l ∷ [])) (sym whole)
-          (mean_push (naming_of s) (names_of s) so_far lines here l afterwards.mean means);
+          (all_zipped_more (MeansDerivationLine (naming_of s) (names_of s)) so_far lines here l afterwards.mean means);
       read = record {
         derived = derived_push s [] lines l afterwards.read.derived is;
         lines_fit = omega (arith, fits, stated_size lines, length-append lines (l ∷ []));

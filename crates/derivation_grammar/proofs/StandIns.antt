@@ -8,7 +8,7 @@ use Rattle.derivation.specs.Trees.{complementation, transitivity}
 use Rattle.lexer.specs.declared.token.LexError.{LexError}
 use Rattle.lexer.specs.declared.token.TokenKind.{TokenKind}
 use Rattle.lexer.specs.declared.token.TokenKind.TheVariants as token
-use Rattle.lexer.specs.Tokens.{Mark}
+use Rattle.lexer.specs.Tokens.{Mark, is_colon}
 use Rattle.schema_grammar.specs.declared.refusal.SchemaRefusal.{SchemaRefusal}
 use Rattle.schema_grammar.specs.declared.refusal.What.TheVariants as what
 use Rattle.schema_grammar.specs.Rests.{Rest, ◌>>=◌, take, refusal_of_token, number, arrow, attribute_of_word, words_from, side, refusal_at_end, unless}
@@ -16,7 +16,7 @@ use Rattle.proof_grammar.specs.declared.rule_name.RuleName.{RuleName}
 use Rattle.proof_grammar.specs.declared.rule_name.RuleName.TheVariants as ten
 use Rattle.proof_grammar.specs.Lines.{Body, by_step, by_pair, Line, body, one_premise, two_premises, stated_dependency, certificate_line, certificate_line_from}
 use Rattle.proof_grammar.specs.Readers.{colon, rule_name}
-use Rattle.proof_grammar.specs.Tokens.{is_colon, rule_word, rule_named}
+use Rattle.proof_grammar.specs.Tokens.{rule_word, rule_named}
 use Rattle.proof_grammar.proofs.TokenLaws.{named_back}
 use Rattle.derivation_grammar.specs.declared.line_rule.LineRule.{LineRule}
 use Rattle.derivation_grammar.specs.declared.line_rule.LineRule.TheVariants as rule

@@ -4,9 +4,9 @@ use Rattle.std.specs.Prelude.{◌↔◌, All, slice_get}
 use Rattle.std.proofs.Math.Seq.{get_or-append_seam}
 use Rattle.std.proofs.lemmas.List.{append-nil}
 use Rattle.std.proofs.lemmas.List.Elements.{All-cons, All-contains}
-use Rattle.dep_model.specs.declared.schema.Schema.{Schema}
+use Rattle.schema_model.specs.Schemas.{Schema}
 use Rattle.dep_model.specs.Dependencies.{Dependency, IsWithin}
-use Rattle.dep_model.specs.Schemas.{names_of, universe_of, naming_of}
+use Rattle.schema_model.specs.Schemas.{names_of, universe_of, naming_of}
 use Rattle.lexer.specs.Modes as mode
 use Rattle.lexer.specs.Lines.{line_texts, without_mark}
 use Rattle.lexer.specs.Tokens.{lex}
@@ -20,9 +20,8 @@ use Rattle.proof_grammar.specs.Diagnostics.{Diagnostic, LineDiagnostic, line_dia
 use Rattle.proof_grammar.specs.Meanings.{certificate_lines_of, certificate_lines}
 use Rattle.proof_grammar.specs.Refusals.{StandsAt}
 use Rattle.proof_grammar.specs.Texts.{line_kind, in_line, at_line}
-use Rattle.proof_grammar.proofs.CountedLines.{lines_to_read, Counts, kind_counts}
+use Rattle.proof_grammar.proofs.CountedLines.{lines_to_read, Counts, kind_counts, nothing_counts, one_line_more}
 use Rattle.proof_grammar.proofs.NodeLemmas.{slice_get-append}
-use Rattle.proof_grammar.proofs.ReadLines.{nothing_counts}
 use Rattle.derivation_grammar.specs.Derivations.{AreDerived, Derives}
 use Rattle.derivation_grammar.specs.Lines.{DerivationLine, derivation_line}
 use Rattle.derivation_grammar.specs.Meanings.{MeansDerivationLine, MeanDerivationLines}
@@ -31,7 +30,7 @@ use Rattle.derivation_grammar.specs.Texts.{add_line, read_as, read_one, finished
 use Rattle.derivation_grammar.proofs.AddedLines.{line_of_schema, Adds, adds, refused_added}
 use Rattle.derivation_grammar.proofs.LineLaws.{line_there, line_back}
 use Rattle.derivation_grammar.proofs.LineRefusals as refusals
-use Rattle.derivation_grammar.proofs.ReadLines.{stated_push, HasRead, at_start, line_passed_over, counts_here, one_more}
+use Rattle.derivation_grammar.proofs.ReadLines.{stated_push, HasRead, at_start, line_passed_over, one_more}
 use Rattle.derivation_grammar.proofs.WalkedLines.{walk}
 
 -- ---- the last line
@@ -132,7 +131,7 @@ line_fits Certificate s text number here texts before fresh lines cut count afte
       after = texts;
       cut = cut;
       number = count;
-      counts = counts_here s before fresh lines here afterwards counts;
+      counts = one_line_more (naming_of s) before fresh here afterwards.counts counts;
     }
 
     by_added : (l : DerivationLine) → MeansDerivationLine (naming_of s) (names_of s) here l

@@ -1,17 +1,16 @@
 -- The reading of lines that are derived comes to what they state.
 use Rattle.std.proofs.Common.{◌≡◌, ◌<◌, ◌≤◌, ◌+◌, ℕ, suc, Bool, false, List, [], ◌∷◌, ◌++◌, length, refl, sym, ◌∙◌, ap, subst, arith, length-append, append_assoc}
 use Rattle.std.proofs.lemmas.List.{append-nil}
-use Rattle.dep_model.specs.declared.schema.Schema.{Schema}
+use Rattle.schema_model.specs.Schemas.{Schema}
 use Rattle.dep_model.specs.Dependencies.{Dependency}
-use Rattle.dep_model.specs.Schemas.{names_of, naming_of}
+use Rattle.schema_model.specs.Schemas.{names_of, naming_of}
 use Rattle.derivation.specs.declared.measures.TheConstants.{MOST_NODES}
 use Rattle.lexer.specs.Modes as mode
 use Rattle.lexer.specs.Tokens.{lex}
 use Rattle.proof_grammar.specs.declared.line_kind.LineKind.{LineKind}
 use Rattle.proof_grammar.specs.declared.line_kind.LineKind.TheVariants.{Blank, Opening, Certificate}
 use Rattle.proof_grammar.specs.Texts.{line_kind}
-use Rattle.proof_grammar.proofs.CountedLines.{lines_to_read, Counts, kind_counts}
-use Rattle.proof_grammar.proofs.ReadLines.{nothing_counts}
+use Rattle.proof_grammar.proofs.CountedLines.{lines_to_read, Counts, kind_counts, nothing_counts}
 use Rattle.derivation_grammar.specs.Derivations.{AreDerived}
 use Rattle.derivation_grammar.specs.Lines.{DerivationLine}
 use Rattle.derivation_grammar.specs.Meanings.{MeanDerivationLines}

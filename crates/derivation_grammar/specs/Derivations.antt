@@ -1,8 +1,8 @@
 -- What a text derives: for `read_derivation` and `check derivation`.
 use Rattle.std.specs.Prelude.{◌≡◌, ◌≤◌, ℕ, ◌+◌, ◌-◌, ◌==◌, if◌then◌else◌, List, [], ◌∷◌, ◌++◌, length, slice_get, Option, None, Some, Result, Ok, Err}
-use Rattle.dep_model.specs.declared.schema.Schema.{Schema}
+use Rattle.schema_model.specs.Schemas.{Schema, theory_in}
 use Rattle.dep_model.specs.Dependencies.{Dependency, left_of, right_of}
-use Rattle.dep_model.specs.Schemas.{names_of, naming_of}
+use Rattle.schema_model.specs.Schemas.{names_of, naming_of}
 use Rattle.derivation.specs.declared.fault.FaultKind.{FaultKind}
 use Rattle.derivation.specs.declared.fault.FaultKind.TheVariants.{NoSuchGiven}
 use Rattle.derivation.specs.declared.measures.TheConstants.{MOST_NODES}
@@ -21,7 +21,7 @@ stated_at before p = if p == 0 then None else slice_get before (p - 1)
 
 -- the dependency of this number, which is counted from 1
 abbrev pub given_conclusion : Schema → ℕ → Result Dependency FaultKind
-given_conclusion s k = if k == 0 then Err NoSuchGiven else leaf_conclusion s (given (k - 1))
+given_conclusion s k = if k == 0 then Err NoSuchGiven else leaf_conclusion (theory_in s) (given (k - 1))
 
 -- what a rule gives over premises, which must be there
 abbrev pub over_one : (Dependency → Result Dependency FaultKind) → Option Dependency
@@ -40,10 +40,10 @@ unfoldable pub outcome_of_rule : Schema → List Dependency → Dependency → B
     → Option (Result Dependency FaultKind)
 outcome_of_rule s before stated (by_given k) = Some (given_conclusion s k)
 outcome_of_rule s before stated by_reflexivity =
-    Some (leaf_conclusion s (reflexivity (left_of stated) (right_of stated)))
+    Some (leaf_conclusion (theory_in s) (reflexivity (left_of stated) (right_of stated)))
 outcome_of_rule s before stated by_mreflexivity =
-    Some (leaf_conclusion s (mreflexivity (left_of stated) (right_of stated)))
-outcome_of_rule s before stated (by_step r p) = over_one (step_conclusion s r) (stated_at before p)
+    Some (leaf_conclusion (theory_in s) (mreflexivity (left_of stated) (right_of stated)))
+outcome_of_rule s before stated (by_step r p) = over_one (step_conclusion (theory_in s) r) (stated_at before p)
 outcome_of_rule s before stated (by_pair r p q) =
     over_two (pair_conclusion r) (stated_at before p) (stated_at before q)
 

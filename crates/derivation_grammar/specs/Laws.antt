@@ -1,12 +1,12 @@
 -- The laws that tie the reading of a derivation to what it derives, and what that comes to: for the
 -- functions of `laws.rt`. `Desk` does not cite it.
 use Rattle.std.specs.Prelude.{◌≡◌, ◌⊎◌, ◌↔◌, ℕ, List, [], All, Ok, Err}
-use Rattle.dep_model.specs.declared.schema.Schema.{Schema}
+use Rattle.schema_model.specs.Schemas.{Schema, theory_in}
 use Rattle.dep_model.specs.Dependencies.{Dependency}
-use Rattle.dep_model.specs.Schemas.{ImpliedBy}
+use Rattle.schema_model.specs.Schemas.{ImpliedBy}
 use Rattle.derivation.specs.Conclusions.{Proves}
 use Rattle.derivation.specs.Trees.{Tree}
-use Rattle.dep_model.specs.declared.naming.Naming.{Naming}
+use Rattle.schema_model.specs.declared.naming.Naming.{Naming}
 use Rattle.lexer.specs.Modes as mode
 use Rattle.lexer.specs.Tokens.{lex}
 use Rattle.schema_grammar.specs.declared.refusal.SchemaRefusal.{SchemaRefusal}
@@ -70,4 +70,4 @@ DerivedIsImplied = (s : Schema) (text : List ℕ) (d : Dependency) → Derives s
 -- a certificate is a derivation of what it proves
 abbrev pub CertificateIsDerivation : Type 0
 CertificateIsDerivation = (s : Schema) (text : List ℕ) (t : Tree) (d : Dependency)
-    → SpellsWithin s text t → Proves s t d → Derives s text d
+    → SpellsWithin s text t → Proves (theory_in s) t d → Derives s text d

@@ -1,11 +1,10 @@
 -- How the grammar refuses a line of a derivation: as that of certificates does, where the name of a
 -- further rule counts as one of the ten with as many premises. For `Refusals`.
 use Rattle.std.specs.Prelude.{ℕ, suc, zero, if◌then◌else◌, List, [], ◌∷◌, Option, Some, codes}
-use Rattle.dep_model.specs.declared.naming.Naming.{Naming}
+use Rattle.schema_model.specs.declared.naming.Naming.{Naming}
 use Rattle.lexer.specs.Modes as mode
-use Rattle.lexer.specs.Tokens.{Mark, lex}
+use Rattle.lexer.specs.Tokens.{Mark, lex, is_colon}
 use Rattle.schema_grammar.specs.declared.refusal.SchemaRefusal.{SchemaRefusal}
-use Rattle.proof_grammar.specs.Tokens.{is_colon}
 use Rattle.proof_grammar.specs.LineDiagnostics.{RefusesTokens}
 use Rattle.derivation_grammar.specs.declared.line_rule.LineRule.{LineRule}
 use Rattle.derivation_grammar.specs.declared.line_rule.LineRule.TheVariants as rule

@@ -1,6 +1,7 @@
 -- What the lines of a derivation mean, by their grammar: for what a text derives (`Derivations`).
 use Rattle.std.specs.Prelude.{◌≡◌, ℕ, List, [], ◌∷◌, ◌++◌, codes}
-use Rattle.dep_model.specs.declared.naming.Naming.{Naming}
+use Rattle.std.specs.List.{AllZip}
+use Rattle.schema_model.specs.declared.naming.Naming.{Naming}
 use Rattle.lexer.specs.Modes as mode
 use Rattle.lexer.specs.Tokens.{Mark, lex}
 use Rattle.schema_grammar.specs.declared.format.Format.TheVariants as format
@@ -65,7 +66,4 @@ pub record MeansDerivationLine (naming : Naming) (names : List (List ℕ)) (text
 
 -- each text means its line
 abbrev pub MeanDerivationLines : Naming → List (List ℕ) → List (List ℕ) → List DerivationLine → Type 0
-MeanDerivationLines naming names [] [] = Unit {0}
-MeanDerivationLines naming names (text ∷ texts) (l ∷ ls) =
-    MeansDerivationLine naming names text l × MeanDerivationLines naming names texts ls
-MeanDerivationLines naming names _ _ = ⊥
+MeanDerivationLines naming names = AllZip (MeansDerivationLine naming names)

@@ -8,10 +8,10 @@ use Rattle.attr_sets.specs.declared.set.TheConstants.{MOST_ATTRIBUTES}
 use Rattle.attr_sets.specs.Attributes.{Attributes, below, union, intersection, difference, IsSubset}
 use Rattle.attr_sets.specs.Sets.{is_subset, is_same}
 use Rattle.attr_sets.proofs.AttributesLemmas.{all_below-true}
-use Rattle.dep_model.specs.declared.schema.Schema.{Schema}
+use Rattle.dep_model.specs.Theories.{Theory}
 use Rattle.dep_model.specs.Tuples.{Relation, IsOver}
 use Rattle.dep_model.specs.Dependencies.{Dependency, fd, mvd, Obeys, ObeysFd, ObeysMvd, left_of, right_of}
-use Rattle.dep_model.specs.Schemas.{width_of, ImpliedBy}
+use Rattle.dep_model.specs.Theories.{width_of, ImpliedBy}
 use Rattle.dep_model.proofs.RuleLemmas.{fd_union_obeyed, fd_weaker_obeyed, mvd_union_obeyed, mvd_intersection_obeyed}
 use Rattle.derivation.specs.declared.fault.FaultKind.TheVariants.{MiddleDiffers, NotWithin}
 use Rattle.derivation.proofs.RuleTableLemmas.{cond-ok}
@@ -139,16 +139,16 @@ multivalued_sound n r within_limit over rule.mpseudotransitivity x y v z d first
     subst P passed.1 (mpseudotransitivity_sound n x y v z r within_limit over passed.0 first second)
 multivalued_sound n r within_limit over rule.pseudotransitivity x y v z d first second h = cc
 
-pub further_sound : (s : Schema) (f : Further) (x y d : Dependency) → ImpliedBy s x → ImpliedBy s y
+pub further_sound : (s : Theory) (f : Further) (x y d : Dependency) → ImpliedBy s x → ImpliedBy s y
     → further_conclusion f x y ≡ Ok d → ImpliedBy s d
 further_sound s f (fd x y) (fd v z) d first second h r legal =
-    functional_sound (width_of s) r s.valid.names_within_limit legal.over f x y v z d (first r legal) (second r legal) h
+    functional_sound (width_of s) r s.valid.within_limit legal.over f x y v z d (first r legal) (second r legal) h
 further_sound s f (mvd x y) (mvd v z) d first second h r legal =
-    multivalued_sound (width_of s) r s.valid.names_within_limit legal.over f x y v z d (first r legal) (second r legal) h
+    multivalued_sound (width_of s) r s.valid.within_limit legal.over f x y v z d (first r legal) (second r legal) h
 further_sound s f (fd x y) (mvd v z) d first second h r legal = cc
 further_sound s f (mvd x y) (fd v z) d first second h r legal = cc
 
-pub decomposition_sound : (s : Schema) (stated x d : Dependency) → ImpliedBy s x
+pub decomposition_sound : (s : Theory) (stated x d : Dependency) → ImpliedBy s x
     → decomposition_conclusion stated x ≡ Ok d → ImpliedBy s d
 decomposition_sound s stated (fd x y) d implied h r legal =
     let n = width_of s in
@@ -157,5 +157,5 @@ decomposition_sound s stated (fd x y) d implied h r legal =
     let both = and_parts (is_same (left_of stated) x) (is_subset z y) passed.0 in
     let P : Dependency → Type 0 = λ e. Obeys n e r in
     subst P passed.1 (fd_below n x y x z r legal.over (λ k low m. m)
-    (subset_below n z y s.valid.names_within_limit both.1) (implied r legal))
+    (subset_below n z y s.valid.within_limit both.1) (implied r legal))
 decomposition_sound s stated (mvd x y) d implied h r legal = cc

@@ -1,9 +1,9 @@
 -- Reading a derivation line by line.
 use Rattle.std.proofs.Common.{◌≡◌, ◌≤◌, ◌+◌, ℕ, Bool, List, length}
 use Rattle.std.specs.Prelude.{All}
-use Rattle.dep_model.specs.declared.schema.Schema.{Schema}
+use Rattle.schema_model.specs.Schemas.{Schema}
 use Rattle.dep_model.specs.Dependencies.{Dependency, IsWithin}
-use Rattle.dep_model.specs.Schemas.{universe_of}
+use Rattle.schema_model.specs.Schemas.{universe_of}
 use Rattle.attr_sets.proofs.AttributesLemmas.{attributes_below}
 use Rattle.derivation.specs.declared.rule.StepRule as steps
 use Rattle.derivation.specs.Derivs.{step_of}

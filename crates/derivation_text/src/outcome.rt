@@ -3,7 +3,7 @@ ghost use Rattle.attr_sets.specs.Attributes.{Attributes};
 ghost use Rattle.dep_model.specs.Dependencies.{IsWithin};
 ghost use Rattle.dep_model.specs.Deps.{dependency_of, dependencies_of, IsDepWithin};
 ghost use Rattle.dep_model.specs.Failures.{RefusesAs};
-ghost use Rattle.dep_model.specs.Schemas.{universe_of};
+ghost use Rattle.schema_model.specs.Schemas.{universe_of};
 ghost use Rattle.derivation.specs.Derivs.{outcome_of};
 ghost use Rattle.derivation.specs.declared.measures.TheConstants.{MOST_NODES};
 ghost use Rattle.proof_grammar.specs.Diagnostics.{IsFound, IsRefusalWithin};
@@ -13,13 +13,14 @@ ghost use Rattle.derivation_grammar.specs.Texts.{add_outcome, add_line};
 ghost use Rattle.derivation_text.specs.Views.{body_of_line, derivation_line_of, maybe_outcome, IfConcluded};
 
 use crate::line::{DerivationBody, DerivationLine};
-use dep_model::{Dep, Failure, Schema, sides};
+use dep_model::{Dep, Failure, sides};
 use derivation::{
     Fault, FaultKind, LeafRule, MOST_NODES, leaf_conclusion, pair_conclusion, step_conclusion,
 };
 use derivation_rules::{decomposition_conclusion, further_conclusion};
 use proof_grammar::ProofRefusalKind;
 use proof_text::{Body, same_dependency};
+use schema_model::Schema;
 
 /// What the line of this number states.
 fn stated_at(before: &[Dep], p: u32) -> Option<Dep>
@@ -39,7 +40,7 @@ fn given_conclusion(schema: &Schema, k: u32) -> Result<Dep, FaultKind>
     if k == 0 || k as usize > schema.deps().len() {
         return Err(FaultKind::NoSuchGiven);
     }
-    leaf_conclusion(schema, LeafRule::Given((k - 1) as u16))
+    leaf_conclusion(&schema.theory(), LeafRule::Given((k - 1) as u16))
 }
 
 /// What a rule of certificates gives, over what the lines before state.
@@ -56,10 +57,16 @@ fn outcome_of_rule(
     let (lhs, rhs) = sides(stated);
     match body {
         Body::Given(k) => Some(given_conclusion(schema, k)),
-        Body::Reflexivity => Some(leaf_conclusion(schema, LeafRule::Reflexivity { lhs, rhs })),
-        Body::MReflexivity => Some(leaf_conclusion(schema, LeafRule::MReflexivity { lhs, rhs })),
+        Body::Reflexivity => Some(leaf_conclusion(
+            &schema.theory(),
+            LeafRule::Reflexivity { lhs, rhs },
+        )),
+        Body::MReflexivity => Some(leaf_conclusion(
+            &schema.theory(),
+            LeafRule::MReflexivity { lhs, rhs },
+        )),
         Body::Step(rule, p) => match stated_at(before, p) {
-            Some(premise) => Some(step_conclusion(schema, rule, premise)),
+            Some(premise) => Some(step_conclusion(&schema.theory(), rule, premise)),
             None => None,
         },
         Body::Pair(rule, p, q) => match (stated_at(before, p), stated_at(before, q)) {

@@ -3,7 +3,7 @@ ghost use Rattle.attr_sets.specs.Attributes.{Attributes};
 ghost use Rattle.dep_model.specs.Dependencies.{IsWithin};
 ghost use Rattle.dep_model.specs.Deps.{dependency_of, dependencies_of, IsDepWithin};
 ghost use Rattle.dep_model.specs.Failures.{RefusesAs};
-ghost use Rattle.dep_model.specs.Schemas.{universe_of, ImpliedBy};
+ghost use Rattle.schema_model.specs.Schemas.{universe_of, ImpliedBy};
 ghost use Rattle.proof_grammar.specs.Diagnostics.{IsFound, IsFoundAt, IsRefusalWithin};
 ghost use Rattle.derivation_grammar.specs.Derivations.{Derives};
 ghost use Rattle.derivation_grammar.specs.Refusals.{RefusesDerivation};
@@ -11,10 +11,11 @@ ghost use Rattle.derivation_grammar.specs.Texts.{read_one, finished};
 
 use crate::line::read_line;
 use crate::outcome::add_line;
-use dep_model::{Dep, Failure, Schema};
+use dep_model::{Dep, Failure};
 use lexer::{Mode, cut_line, without_mark};
 use proof_grammar::{ProofRefusal, ProofRefusalKind};
 use proof_text::{MOST_PROOF_BYTES, is_blank, is_yes};
+use schema_model::Schema;
 use std::alloc::Global;
 use tokens::{Cursor, Guide, Names, NextToken};
 

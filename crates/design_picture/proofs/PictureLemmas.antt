@@ -4,7 +4,7 @@ use Rattle.std.specs.Prelude.{fold, max}
 use Rattle.std.specs.List.{flat_map}
 use Rattle.attr_sets.specs.Attributes.{Attributes, IsEmpty, IsFirstFrom, count_below}
 use Rattle.attr_sets.specs.declared.set.TheConstants.{MOST_ATTRIBUTES}
-use Rattle.dep_model.specs.declared.schema.Schema.{Schema}
+use Rattle.schema_model.specs.Schemas.{Schema}
 use Rattle.dep_model.specs.Projections.{members_below}
 use Rattle.dep_model.proofs.SchemeLemmas.{count_below-no_more, count_below-start, members_below-at, members_below-member, members_below-none, members_below-outside}
 use Rattle.ddl_text.proofs.TextLemmas.{item_more}

@@ -4,9 +4,9 @@ use Rattle.std.specs.Prelude.{ℕ, zero, suc, ◌+◌, ◌*◌, ◌==◌, nat_lt
 use Rattle.attr_sets.specs.Attributes.{Attributes, count_below}
 use Rattle.attr_sets.specs.Sets.{attributes}
 use Rattle.attr_sets.specs.declared.set.TheConstants.{MOST_ATTRIBUTES}
-use Rattle.dep_model.specs.declared.schema.Schema.{Schema}
+use Rattle.schema_model.specs.Schemas.{Schema}
 use Rattle.dep_model.specs.Projections.{members_below}
-use Rattle.dep_model.specs.Schemas.{names_of, width_of}
+use Rattle.schema_model.specs.Schemas.{names_of, width_of}
 use Rattle.ddl_text.specs.declared.table.TableDesign.{TableDesign}
 use Rattle.design_picture.specs.declared.sizes.TableSize.{TableSize}
 use Rattle.design_picture.specs.declared.places.TablePlace.{TablePlace}

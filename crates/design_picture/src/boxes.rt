@@ -4,7 +4,7 @@ ghost use Rattle.std.specs.Prelude.{◌≡◌, ◌++◌, ◌<◌, length, OnOk};
 ghost use Rattle.std.specs.List.{flat_map};
 ghost use Rattle.attr_sets.specs.Sets.{attributes};
 ghost use Rattle.dep_model.specs.Projections.{members_below};
-ghost use Rattle.dep_model.specs.Schemas.{width_of};
+ghost use Rattle.schema_model.specs.Schemas.{width_of};
 ghost use Rattle.design_picture.specs.Picture.{attribute_text, box_at, box_text, frame_text, key_mark, box_name_text, texts_below};
 
 use crate::places::{TablePlace, place_at};
@@ -13,8 +13,9 @@ use crate::rows::row_of;
 use crate::sums::{product, sum};
 use byte_texts::add;
 use ddl_text::TableDesign;
-use dep_model::{OutOfMemory, Schema};
+use dep_model::OutOfMemory;
 use html_pages::add_html;
+use schema_model::Schema;
 use std::alloc::Global;
 
 // Adds the boxes of these tables, in order.

@@ -7,7 +7,8 @@ use crate::places::{TablePlace, place_tables, whole_height, whole_width};
 use crate::points::add_point;
 use byte_texts::add;
 use ddl_text::{DesignList, TableDesign};
-use dep_model::{OutOfMemory, Schema};
+use dep_model::OutOfMemory;
+use schema_model::Schema;
 use std::alloc::Global;
 
 /// The SVG text of a design, in a division of a page: a line for each reference of each table, in order, and

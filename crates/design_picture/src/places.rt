@@ -6,7 +6,8 @@ ghost use Rattle.design_picture.specs.Places.{left_of, place_at, place_of, place
 use crate::sizes::{TableSize, measure_tables};
 use crate::sums::sum;
 use ddl_text::TableDesign;
-use dep_model::{OutOfMemory, Schema};
+use dep_model::OutOfMemory;
+use schema_model::Schema;
 use std::alloc::Global;
 
 /// The depth of a table, and the left edge, the top, the width and the height of its box, in pixels.

@@ -2,11 +2,12 @@
 
 ghost use Rattle.std.specs.Prelude.{◌≡◌, ◌<◌, IfOk};
 ghost use Rattle.design_picture.specs.Places.{attribute_columns, box_height, box_width, byte_columns, depth_at, depth_of, most_columns, name_columns, size_of, sizes_of};
-ghost use Rattle.dep_model.specs.Schemas.{width_of};
+ghost use Rattle.schema_model.specs.Schemas.{width_of};
 
 use crate::sums::{product, sum};
 use ddl_text::TableDesign;
-use dep_model::{OutOfMemory, Schema};
+use dep_model::OutOfMemory;
+use schema_model::Schema;
 use std::alloc::Global;
 
 /// The depth of a table, and the width and height of its box in pixels.

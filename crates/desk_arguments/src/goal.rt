@@ -1,14 +1,15 @@
 ghost use Rattle.std.specs.Prelude.{IfOk, IfErr};
 ghost use Rattle.dep_model.specs.Deps.{dependency_of, IsDepWithin};
-ghost use Rattle.dep_model.specs.Schemas.{universe_of};
+ghost use Rattle.schema_model.specs.Schemas.{universe_of};
 ghost use Rattle.desk_arguments.specs.Goals.{IsGoal, GoalStops};
 ghost use Rattle.desk_responses.specs.Responses.{ExitsAs};
 
 use arguments::Argument;
-use dep_model::{Dep, Schema};
+use dep_model::Dep;
 use desk_refusals::refusal_exit;
 use desk_responses::{EarlyExit, Status};
 use desk_texts::line_of;
+use schema_model::Schema;
 use schema_reader::{MOST_GOAL_BYTES, read_goal};
 use std::alloc::Global;
 

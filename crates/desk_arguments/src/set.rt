@@ -1,16 +1,16 @@
 ghost use Rattle.std.specs.Prelude.{IfOk, IfErr};
 ghost use Rattle.attr_sets.specs.Attributes.{IsSubset};
 ghost use Rattle.attr_sets.specs.Sets.{attributes};
-ghost use Rattle.dep_model.specs.Schemas.{universe_of};
+ghost use Rattle.schema_model.specs.Schemas.{universe_of};
 ghost use Rattle.desk_arguments.specs.Goals.{IsSetText, SetStops};
 ghost use Rattle.desk_responses.specs.Responses.{ExitsAs};
 
 use arguments::Argument;
 use attr_sets::AttrSet;
-use dep_model::Schema;
 use desk_refusals::refusal_exit;
 use desk_responses::{EarlyExit, Status};
 use desk_texts::line_of;
+use schema_model::Schema;
 use schema_reader::{MOST_SET_BYTES, read_set};
 use std::alloc::Global;
 

@@ -1,7 +1,7 @@
 -- Which answers a command allows, and the words that form it: for `desk`, by `Desk`.
 use Rattle.std.specs.Prelude.{ℕ, List, [], ◌∷◌, MatchOption}
 use Rattle.dep_model.specs.Tuples.{Relation}
-use Rattle.dep_model.specs.declared.schema.Schema.{Schema}
+use Rattle.schema_model.specs.Schemas.{Schema}
 use Rattle.table_join.specs.Tables.{tables_of}
 use Rattle.plan_printer.specs.NamedPlans.{NamedSchemes}
 use Rattle.desk_responses.specs.declared.status.Status.TheVariants.{Yes, Refused}
@@ -23,7 +23,7 @@ use Rattle.desk_designs.specs.Drawings.{DrawsForm, DrawsSchemes}
 use Rattle.desk_exhibits.specs.Exhibits.{Exhibits}
 use Rattle.desk_words.specs.Forms as form
 use Rattle.desk_words.specs.Forms.{CommandForm, PlanQuestion, RowsQuestion, RulesQuestion, SchemaQuestion, Task, form_of}
-use Rattle.headed_rows.specs.declared.headed_rows.Headed.{Headed}
+use Rattle.headed_rows.specs.Headings.{HeadedRows}
 use Rattle.desk_inputs.specs.FileKinds.{WithFile}
 use Rattle.desk_imports.specs.Columns.{ImportsColumns}
 use Rattle.desk_imports.specs.Imports.{ImportsTable}
@@ -100,7 +100,7 @@ AnswersRows schema rows form.offences_by_row = ListsOffencesByRow schema rows
 AnswersRows schema rows form.kept = KeepsRows schema rows
 
 -- which rules are sought in the rows of a file of this name, under a free header
-unfoldable pub AnswersRules : RulesQuestion → List ℕ → Headed → Allowed
+unfoldable pub AnswersRules : RulesQuestion → List ℕ → HeadedRows → Allowed
 AnswersRules form.minimal_rules file headed = FindsRules file headed
 AnswersRules (form.small_rules most) file headed = FindsSmallRules most file headed
 AnswersRules form.keys_of_rows file headed = FindsRowKeys file headed

@@ -11,13 +11,14 @@ ghost use Rattle.desk_tables.specs.Overwriting.{MigratesHere, MigratesPlanHere};
 ghost use Rattle.desk_tables.specs.OwnFolders.{MigratesInto, MigratesPlanInto};
 
 use arguments::Argument;
-use dep_model::{Form, Schema};
+use dep_model::Form;
 use desk_inputs::{open_plan, open_rows};
 use desk_outside::FileSource;
 use desk_responses::{EarlyExit, Response};
 use desk_tables::{migrate_form_here, migrate_form_into, migrate_plan_here, migrate_plan_into};
 use own_folder::FolderMaker;
 use row_store::Hashing;
+use schema_model::Schema;
 use std::alloc::Global;
 
 /// The rows of a file, as tables in a normal form of the schema, which is in its own file.

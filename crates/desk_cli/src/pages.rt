@@ -9,11 +9,11 @@ ghost use Rattle.desk_reports.specs.Reports.{ReportsPlan};
 ghost use Rattle.desk_responses.specs.Responses.{RespondsAs};
 
 use arguments::Argument;
-use dep_model::Schema;
 use desk_inputs::open_plan;
 use desk_outside::FileSource;
 use desk_reports::report_plan;
 use desk_responses::{EarlyExit, Response};
+use schema_model::Schema;
 use std::alloc::Global;
 
 /// The page of a schema, which is in its own file, and the plan of another.

@@ -2,11 +2,11 @@
 
 ghost use Rattle.std.specs.Prelude.{◌≤◌, ◌<◌, ◌^◌, length};
 ghost use Rattle.dep_model.specs.Projections.{Covers};
-ghost use Rattle.dep_model.specs.Schemas.{width_of};
+ghost use Rattle.schema_model.specs.Schemas.{width_of, theory_in};
 ghost use Rattle.dep_model.specs.Tuples.{IsOver};
 ghost use Rattle.plan_printer.specs.NamedPlans.{named_schemes};
 ghost use Rattle.headed_rows.specs.Headers.{IsColumnHeader};
-ghost use Rattle.headed_rows.specs.Headings.{names_under, rows_under};
+ghost use Rattle.headed_rows.specs.Headings.{headed_of};
 ghost use Rattle.row_store.specs.declared.limits.TheConstants.{MOST_HEADED_ROWS};
 ghost use Rattle.plans.specs.Plans.{IsPlanOver, plan_of};
 ghost use Rattle.desk_words.specs.Commands.{plan_question, rows_question, rules_question, schema_question};
@@ -14,7 +14,6 @@ ghost use Rattle.desk_cli.specs.Performs.{AnswersPlan, AnswersRows, AnswersRules
 ghost use Rattle.desk_responses.specs.Responses.{RespondsAs};
 
 use arguments::Argument;
-use dep_model::{Name, Schema};
 use desk_covers::{cover, explain_cover};
 use desk_designs::{
     check_form, check_join, check_keeps, draw_form, draw_plan, explain_split, explain_synthesis,
@@ -33,6 +32,7 @@ use headed_rows::Headed;
 use plan_printer::NamedPlan;
 use plans::MOST_SCHEMES;
 use row_store::{Hashing, Rows};
+use schema_model::{Name, Schema};
 use std::alloc::Global;
 
 /// Answers what is asked of a schema alone.
@@ -75,7 +75,7 @@ pub fn answer_plan(
     planned: &NamedPlan,
     question: PlanQuestion<'_>,
 ) -> Result<Response, EarlyExit>
-    requires universe { IsPlanOver schema.now planned.now.plan }
+    requires universe { IsPlanOver (theory_in schema.now) planned.now.plan }
     requires within_limit { length (plan_of planned.now.plan) ≤ MOST_SCHEMES }
     requires covers { Covers (width_of schema.now) (plan_of planned.now.plan) }
     ensures response { RespondsAs
@@ -126,11 +126,11 @@ pub fn answer_rules(
     headed: Headed,
     question: RulesQuestion,
 ) -> Result<Response, EarlyExit>
-    requires header { IsColumnHeader (names_under headed) }
-    requires any_name { 0 < length (names_under headed) }
-    requires same_width { IsOver (length (names_under headed)) (rows_under headed) }
-    requires within_limit { length (rows_under headed) ≤ MOST_HEADED_ROWS }
-    ensures response { RespondsAs (AnswersRules (rules_question question) file.now headed) result }
+    requires header { IsColumnHeader headed.names.items }
+    requires any_name { 0 < length headed.names.items }
+    requires same_width { IsOver (length headed.names.items) headed.rows }
+    requires within_limit { length headed.rows ≤ MOST_HEADED_ROWS }
+    ensures response { RespondsAs (AnswersRules (rules_question question) file.now (headed_of headed)) result }
 {
     match question {
         RulesQuestion::Minimal => discover_rules(alloc, hashing, file, headed),

@@ -28,7 +28,6 @@ use crate::migrations::{of_plan_and_rows, of_plan_and_rows_into, of_rows_in_form
 use crate::pages::of_page_and_plan;
 use crate::questions::{answer_plan, answer_rows, answer_rules, answer_schema};
 use arguments::Argument;
-use dep_model::Schema;
 use desk_covers::{check_cover, check_same};
 use desk_discovery::discover_all_rules;
 use desk_implication::{check_derivation, check_proof};
@@ -44,6 +43,7 @@ use desk_tables::rejoin;
 use desk_words::{MOST_FILES, PlanQuestion, RowsQuestion, RulesQuestion, Task};
 use own_folder::FolderMaker;
 use row_store::Hashing;
+use schema_model::Schema;
 use std::alloc::Global;
 
 /// Answers what is asked of the schema of a file.

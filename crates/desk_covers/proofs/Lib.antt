@@ -1,1 +1,2 @@
 pub mod SamenessLemmas
+mod KindLemmas

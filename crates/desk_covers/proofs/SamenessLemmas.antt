@@ -1,7 +1,7 @@
 -- What follows from the differences of two schemas over the same names.
 use Rattle.std.proofs.Common.{◌≡◌, ℕ, List, []}
 use Rattle.std.specs.Prelude.{◌↔◌}
-use Rattle.dep_model.specs.declared.schema.Schema.{Schema}
+use Rattle.schema_model.specs.Schemas.{Schema}
 use Rattle.schema_match.specs.Carried.{IsImpliedBy}
 use Rattle.schema_match.specs.Columns.{SameNames}
 use Rattle.schema_match.specs.Differences.{AreDifferences}

@@ -1,12 +1,13 @@
 -- Whether a schema is a minimal cover of another, and what keeps it from being one: for `check cover`.
-use Rattle.std.specs.Prelude.{◌≡◌, ◌⊎◌, ℕ, List, [], ◌++◌, codes, slice_get}
-use Rattle.std.specs.List.{flat_map}
+use Rattle.std.specs.Prelude.{◌≡◌, ◌⊎◌, ℕ, List, [], ◌++◌, codes, slice_get, if◌then◌else◌}
+use Rattle.std.specs.List.{flat_map, list_all}
 use Rattle.attr_sets.specs.Attributes.{only}
 use Rattle.cover_accounts.specs.CoverDiagnostics.{AreCoverDiagnostics}
 use Rattle.cover_accounts.specs.declared.diagnostic.CoverDiagnostic.{CoverDiagnostic}
 use Rattle.cover_accounts.specs.declared.diagnostic.CoverDiagnostic.TheVariants.{SeveralOnRight, NotNeeded, Follows}
-use Rattle.dep_model.specs.Schemas.{deps_of, lines_of, width_of, theory_of}
-use Rattle.dep_model.specs.declared.schema.Schema.{Schema}
+use Rattle.dep_model.specs.Dependencies.{is_fd}
+use Rattle.schema_model.specs.Schemas.{deps_of, lines_of, width_of, theory_of}
+use Rattle.schema_model.specs.Schemas.{Schema}
 use Rattle.schema_printer.specs.Printing.{set_text}
 use Rattle.schema_printer.specs.Spelling.{printed_names_of}
 use Rattle.desk_responses.specs.declared.status.Status.TheVariants.{Yes, No}
@@ -33,15 +34,19 @@ diagnostic_text schema (Follows k) = line (placed_dep_text schema k ++ codes " f
 abbrev pub diagnostics_text : Schema → List CoverDiagnostic → List ℕ
 diagnostics_text schema found = flat_map (diagnostic_text schema) found
 
-abbrev pub minimal_text : List ℕ
-minimal_text = line (codes "equivalent and minimal")
+-- what is said where nothing is wrong: beside a multivalued dependency a functional one may still follow
+-- from both kinds, so each kind is minimal by itself
+abbrev pub minimal_text : Schema → List ℕ
+minimal_text schema =
+    if list_all is_fd (theory_of schema) then line (codes "equivalent and minimal")
+    else line (codes "equivalent, and minimal by kind")
 
 -- ---- answers
 -- yes exactly where nothing keeps a schema from being a minimal cover; else no, with all that does
 abbrev pub TestsMinimal : Schema → Allowed
 TestsMinimal schema response =
     (found : List CoverDiagnostic) × AreCoverDiagnostics (width_of schema) (theory_of schema) found
-    × (((found ≡ []) × Says Yes minimal_text response)
+    × (((found ≡ []) × Says Yes (minimal_text schema) response)
     ⊎ ((found ≡ [] → ⊥) × Says No (diagnostics_text schema found) response))
 
 -- where the two do not say the same, the answer of `check same`; else whether the other is minimal

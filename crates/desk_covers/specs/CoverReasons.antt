@@ -5,8 +5,8 @@ use Rattle.attr_sets.specs.Attributes.{Attributes, below, only, difference, inte
 use Rattle.cover_accounts.specs.Steps.{Placed, Shortened, AreCoverSteps, placed}
 use Rattle.dep_model.specs.Dependencies.{fd}
 use Rattle.dep_model.specs.Projections.{members_below}
-use Rattle.dep_model.specs.Schemas.{width_of, theory_of, lines_of}
-use Rattle.dep_model.specs.declared.schema.Schema.{Schema}
+use Rattle.schema_model.specs.Schemas.{width_of, theory_of, lines_of}
+use Rattle.schema_model.specs.Schemas.{Schema}
 use Rattle.schema_printer.specs.Printing.{dependency_text, set_text}
 use Rattle.schema_printer.specs.Spelling.{printed_names_of}
 use Rattle.desk_responses.specs.Lines.{line_number_text}

@@ -1,8 +1,8 @@
 -- What says the same as a schema, shortened: for `cover`.
 use Rattle.std.specs.Prelude.{List}
 use Rattle.dep_model.specs.Dependencies.{Dependency, functional_part}
-use Rattle.dep_model.specs.Schemas.{width_of, theory_of}
-use Rattle.dep_model.specs.declared.schema.Schema.{Schema}
+use Rattle.schema_model.specs.Schemas.{width_of, theory_of}
+use Rattle.schema_model.specs.Schemas.{Schema}
 use Rattle.schema_printer.specs.Printing.{schema_text}
 use Rattle.min_cover.specs.Covers.{IsFixedWholeCover, IsMinimalCover, IsWholeCover}
 use Rattle.desk_responses.specs.declared.status.Status.TheVariants.{Yes}

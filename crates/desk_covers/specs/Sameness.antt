@@ -2,8 +2,8 @@
 use Rattle.std.specs.Prelude.{◌≡◌, ◌⊎◌, ℕ, List, ◌++◌, codes, slice_get}
 use Rattle.std.specs.List.{flat_map}
 use Rattle.attr_sets.specs.Attributes.{IsFirstFrom}
-use Rattle.dep_model.specs.Schemas.{deps_of, lines_of}
-use Rattle.dep_model.specs.declared.schema.Schema.{Schema}
+use Rattle.schema_model.specs.Schemas.{deps_of, lines_of}
+use Rattle.schema_model.specs.Schemas.{Schema}
 use Rattle.schema_printer.specs.Spelling.{printed_names_of}
 use Rattle.schema_match.specs.Carried.{IsImpliedBy, HaveSameLegalRelations}
 use Rattle.schema_match.specs.Columns.{IsDeclaredBy, SameNames, undeclared_attributes}

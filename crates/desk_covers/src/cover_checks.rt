@@ -1,6 +1,6 @@
 ghost use Rattle.std.specs.Prelude.{◌≡◌, All, IfOk};
 ghost use Rattle.cover_accounts.specs.CoverDiagnostics.{NamesAttribute};
-ghost use Rattle.desk_covers.specs.CoverChecks.{ChecksCover, TestsCover, TestsMinimal, diagnostic_text, diagnostics_text, placed_dep_text};
+ghost use Rattle.desk_covers.specs.CoverChecks.{ChecksCover, TestsCover, TestsMinimal, diagnostic_text, diagnostics_text, minimal_text, placed_dep_text};
 ghost use Rattle.desk_responses.specs.Responses.{response_value, RespondsAs};
 ghost use Rattle.schema_match.specs.Columns.{SameNames};
 
@@ -9,9 +9,11 @@ use arguments::Argument;
 use attr_sets::AttrSet;
 use byte_texts::add;
 use cover_accounts::{CoverDiagnostic, diagnostics};
-use dep_model::{OutOfMemory, Schema};
+use dep_model::OutOfMemory;
 use desk_responses::{EarlyExit, Response, Status, put_dep, put_line};
 use desk_texts::line_of;
+use fd_closure::is_functional;
+use schema_model::Schema;
 use schema_printer::add_set;
 use std::alloc::Global;
 
@@ -57,13 +59,23 @@ fn test_cover(
 fn test_minimal(alloc: Global, schema: &Schema) -> Result<Response, OutOfMemory>
     ensures response { IfOk result (λ response. TestsMinimal schema.now (response_value response)) }
 {
-    let found = diagnostics(alloc, schema)?;
+    let found = diagnostics(alloc, &schema.theory())?;
     if found.is_empty() {
-        let text = line_of(alloc, b"equivalent and minimal", b"", b"")?;
-        return Ok(Response::with_text(Status::Yes, text));
+        return Ok(Response::with_text(Status::Yes, minimal_line(alloc, schema)?));
     }
     let text = diagnostic_lines(alloc, schema, &found)?;
     Ok(Response::with_text(Status::No, text))
+}
+
+// What is said of a schema that has no diagnostic.
+fn minimal_line(alloc: Global, schema: &Schema) -> Result<Vec<u8>, OutOfMemory>
+    ensures text { IfOk result (λ text. text.items ≡ minimal_text schema.now) }
+{
+    if is_functional(schema.deps()) {
+        line_of(alloc, b"equivalent and minimal", b"", b"")
+    } else {
+        line_of(alloc, b"equivalent, and minimal by kind", b"", b"")
+    }
 }
 
 // A line for each diagnostic.

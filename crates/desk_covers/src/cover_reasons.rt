@@ -9,8 +9,9 @@ ghost use Rattle.desk_responses.specs.Responses.{response_value, RespondsAs};
 use attr_sets::AttrSet;
 use byte_texts::add;
 use cover_accounts::{PlacedDep, ShortMember, cover_steps};
-use dep_model::{Dep, OutOfMemory, Schema};
+use dep_model::{Dep, OutOfMemory};
 use desk_responses::{EarlyExit, Response, Status, put_line};
+use schema_model::Schema;
 use schema_printer::{add_dep, add_set, print_deps};
 use std::alloc::Global;
 
@@ -25,7 +26,7 @@ pub fn explain_cover(alloc: Global, schema: &Schema) -> Result<Response, EarlyEx
 fn explained_cover(alloc: Global, schema: &Schema) -> Result<Response, OutOfMemory>
     ensures response { IfOk result (λ response. ExplainsCover schema.now (response_value response)) }
 {
-    let steps = cover_steps(alloc, schema)?;
+    let steps = cover_steps(alloc, &schema.theory())?;
     let mut text = print_reasons(alloc, schema, &steps.members, &steps.gone)?;
     let plain = print_deps(alloc, schema, &steps.whole)?;
     add(&mut text, &plain)?;

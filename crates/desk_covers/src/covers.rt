@@ -2,9 +2,10 @@ ghost use Rattle.std.specs.Prelude.{IfOk};
 ghost use Rattle.desk_covers.specs.Covering.{GivesCover};
 ghost use Rattle.desk_responses.specs.Responses.{response_value, RespondsAs};
 
-use dep_model::{OutOfMemory, Schema};
+use dep_model::OutOfMemory;
 use desk_responses::{EarlyExit, Response, Status};
 use min_cover::whole_cover;
+use schema_model::Schema;
 use schema_printer::print_deps;
 use std::alloc::Global;
 
@@ -19,6 +20,6 @@ pub fn cover(alloc: Global, schema: &Schema) -> Result<Response, EarlyExit>
 fn cover_response(alloc: Global, schema: &Schema) -> Result<Response, OutOfMemory>
     ensures response { IfOk result (λ response. GivesCover schema.now (response_value response)) }
 {
-    let whole = whole_cover(alloc, schema)?;
+    let whole = whole_cover(alloc, &schema.theory())?;
     Ok(Response::with_text(Status::Yes, print_deps(alloc, schema, &whole)?))
 }

@@ -8,10 +8,11 @@ ghost use Rattle.desk_responses.specs.Lines.{attribute_name};
 
 use arguments::Argument;
 use byte_texts::add;
-use dep_model::{OutOfMemory, Schema};
+use dep_model::OutOfMemory;
 use desk_responses::{EarlyExit, Response, Status, put_dep, put_line, put_name};
 use desk_texts::line_of;
 use schema_match::{differences, first_undeclared};
+use schema_model::Schema;
 use std::alloc::Global;
 
 /// Whether two schemas say the same, if they have the same names. Each comes with the name of its file.

@@ -2,4 +2,5 @@ pub mod LossLemmas
 pub mod SplitLemmas
 pub mod MissingLemmas
 mod ShownLosses
+mod ShownFirst
 pub mod StatusLemmas

@@ -2,8 +2,8 @@
 use Rattle.std.proofs.Common.{List, refl}
 use Rattle.attr_sets.specs.declared.set.AttrSet.{AttrSet}
 use Rattle.dep_model.specs.Plans.{schemes_of}
-use Rattle.dep_model.specs.Schemas.{nullable_of}
-use Rattle.dep_model.specs.declared.schema.Schema.{Schema}
+use Rattle.schema_model.specs.Schemas.{nullable_of}
+use Rattle.schema_model.specs.Schemas.{Schema}
 use Rattle.table_names.specs.TableNames.{GivenNames}
 use Rattle.ddl_text.specs.declared.table.TableDesign.{TableDesign}
 use Rattle.desk_designs.specs.Designs.{AreNeverMissing, IsDesignOf, IsSoundDesign}

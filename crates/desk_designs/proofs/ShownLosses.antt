@@ -9,10 +9,10 @@ use Rattle.dep_model.specs.Dependencies.{Dependency}
 use Rattle.dep_model.specs.Implication.{IsLegal}
 use Rattle.dep_model.specs.Plans.{schemes_of}
 use Rattle.dep_model.specs.Projections.{InJoin, projections}
-use Rattle.dep_model.specs.Schemas.{theory_of, types_of, width_of}
+use Rattle.schema_model.specs.Schemas.{theory_of, types_of, width_of}
 use Rattle.dep_model.specs.Tuples.{Relation}
 use Rattle.dep_model.specs.TwoTuples.{all_zeros}
-use Rattle.dep_model.specs.declared.schema.Schema.{Schema}
+use Rattle.schema_model.specs.Schemas.{Schema}
 use Rattle.dep_model.proofs.TwoTupleLemmas.{length-all_zeros}
 use Rattle.typed_rows.proofs.HeldNumerals.{tableau_holds}
 use Rattle.typed_rows.specs.Shown.{shown_relation, shown_zeros}

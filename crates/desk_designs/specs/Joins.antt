@@ -7,8 +7,8 @@ use Rattle.chase_laws.specs.Answers.{IsClosedTableau}
 use Rattle.column_values.specs.Values.{FitsColumns}
 use Rattle.chase_laws.specs.Rounds.{RoundsExceed}
 use Rattle.dep_model.specs.Projections.{InJoin, IsLossless, projections}
-use Rattle.dep_model.specs.Schemas.{names_of, width_of, theory_of, LegalFor}
-use Rattle.dep_model.specs.declared.schema.Schema.{Schema}
+use Rattle.schema_model.specs.Schemas.{names_of, width_of, theory_of, LegalFor}
+use Rattle.schema_model.specs.Schemas.{Schema}
 use Rattle.dep_model.specs.Tuples.{Relation, Tuple}
 use Rattle.typed_rows.specs.Shown.{shown_relation, shown_zeros}
 use Rattle.tableau_chase.specs.RefusalTexts.{chase_refusal_text}

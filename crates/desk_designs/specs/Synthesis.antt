@@ -6,8 +6,8 @@ use Rattle.dep_model.specs.Forms.{IsThird}
 use Rattle.dep_model.specs.Plans.{schemes_of}
 use Rattle.dep_model.specs.Preservation.{KeepsDependencies}
 use Rattle.dep_model.specs.Projections.{IsLossless}
-use Rattle.dep_model.specs.Schemas.{width_of, theory_of, nullable_of}
-use Rattle.dep_model.specs.declared.schema.Schema.{Schema}
+use Rattle.schema_model.specs.Schemas.{width_of, theory_of, nullable_of}
+use Rattle.schema_model.specs.Schemas.{Schema}
 use Rattle.schema_printer.specs.Spelling.{printed_names_of}
 use Rattle.plan_printer.specs.Printing.{plan_text}
 use Rattle.synthesis_3nf.specs.GroupedPlans.{IsGroupedPlan}

@@ -1,5 +1,5 @@
 ghost use Rattle.std.specs.Prelude.{◌≡◌, IfOk, IfErr};
-ghost use Rattle.dep_model.specs.Schemas.{width_of, theory_of};
+ghost use Rattle.schema_model.specs.Schemas.{width_of, theory_of, theory_in};
 ghost use Rattle.schema_printer.specs.Spelling.{printed_names_of};
 ghost use Rattle.split_forms.specs.Refusals.{IsRefusedSplit};
 ghost use Rattle.plans.specs.Plans.{IsPlanOver, plan_of, scheme_sets};
@@ -10,11 +10,12 @@ ghost use Rattle.desk_responses.specs.Responses.{response_value, RespondsAs, Exi
 ghost use Rattle.desk_designs.specs.Synthesis.{IsThirdFormPlan};
 
 use byte_texts::add;
-use dep_model::{Failure, Form, OutOfMemory, Schema};
+use dep_model::{Failure, Form, OutOfMemory};
 use desk_responses::{EarlyExit, Response, Status, too_wide_exit};
 use desk_texts::line_of;
 use plan_printer::print_plan;
 use plans::Plan;
+use schema_model::Schema;
 use split_forms::{SplitRefusal, split};
 use std::alloc::Global;
 use synthesis_3nf::synthesize;
@@ -26,7 +27,7 @@ pub const MOST_SPLIT_SCHEMES: u32 = 4_096;
 /// The plan of a normal form: by synthesis for third normal form, else by splitting.
 pub fn plan_in_form(alloc: Global, schema: &Schema, form: Form) -> Result<Plan, EarlyExit>
     ensures ok { IfOk result (λ plan. IsPlanInForm schema.now form (scheme_sets plan)) }
-    ensures universe { IfOk result (IsPlanOver schema.now) }
+    ensures universe { IfOk result (IsPlanOver (theory_in schema.now)) }
     ensures exit { IfErr result (ExitsAs (FormStops schema.now form)) }
 {
     match form {
@@ -39,19 +40,19 @@ pub fn plan_in_form(alloc: Global, schema: &Schema, form: Form) -> Result<Plan, 
 /// A plan in third normal form that keeps the functional dependencies.
 pub fn third_form_plan(alloc: Global, schema: &Schema) -> Result<Plan, OutOfMemory>
     ensures third { IfOk result (λ plan. IsThirdFormPlan schema.now (scheme_sets plan)) }
-    ensures universe { IfOk result (IsPlanOver schema.now) }
+    ensures universe { IfOk result (IsPlanOver (theory_in schema.now)) }
 {
-    synthesize(alloc, schema)
+    synthesize(alloc, &schema.theory(), schema.nullable())
 }
 
 // A plan in Boyce-Codd or fourth normal form.
 fn split_plan(alloc: Global, schema: &Schema, form: Form) -> Result<Plan, EarlyExit>
     requires form { form ≡ forms.Third → ⊥ }
     ensures ok { IfOk result (λ plan. IsSplitInForm schema.now form (scheme_sets plan)) }
-    ensures universe { IfOk result (IsPlanOver schema.now) }
+    ensures universe { IfOk result (IsPlanOver (theory_in schema.now)) }
     ensures exit { IfErr result (ExitsAs (SplitStops schema.now form)) }
 {
-    match split(alloc, schema, form, MOST_SPLIT_SCHEMES) {
+    match split(alloc, &schema.theory(), form, MOST_SPLIT_SCHEMES) {
         Ok(plan) => Ok(plan),
         Err(Failure::Refused(refusal)) => Err(split_exit(alloc, schema, refusal)),
         Err(Failure::OutOfMemory) => Err(EarlyExit::OutOfMemory),
@@ -98,7 +99,7 @@ pub fn split_in_form(alloc: Global, schema: &Schema, form: Form) -> Result<Respo
 
 // A plan as text.
 fn response_of(alloc: Global, schema: &Schema, plan: &Plan) -> Result<Response, OutOfMemory>
-    requires universe { IsPlanOver schema.now plan.now }
+    requires universe { IsPlanOver (theory_in schema.now) plan.now }
     ensures response { IfOk result (λ response. ShowsPlan schema.now (scheme_sets plan.now)
         (response_value response)) }
 {
@@ -115,12 +116,12 @@ pub fn split_by_pairs(alloc: Global, schema: &Schema) -> Result<Response, EarlyE
 fn wide_split_response(alloc: Global, schema: &Schema) -> Result<Response, OutOfMemory>
     ensures response { IfOk result (λ response. SplitsWide schema.now (response_value response)) }
 {
-    let plan = split_wide(alloc, schema)?;
+    let plan = split_wide(alloc, &schema.theory())?;
     Ok(Response::with_text(Status::Yes, wide_split_lines(alloc, schema, &plan)?))
 }
 
 fn wide_split_lines(alloc: Global, schema: &Schema, plan: &Plan) -> Result<Vec<u8>, OutOfMemory>
-    requires universe { IsPlanOver schema.now plan.now }
+    requires universe { IsPlanOver (theory_in schema.now) plan.now }
     ensures text { IfOk result (λ text. text.items ≡ wide_split_text (printed_names_of schema.now) (plan_of plan.now)) }
 {
     let mut text = line_of(alloc, b"# a scheme in form may have been cut", b"", b"")?;

@@ -1,6 +1,6 @@
 ghost use Rattle.std.specs.Prelude.{◌≤◌, length, IfOk};
 ghost use Rattle.dep_model.specs.Projections.{Covers};
-ghost use Rattle.dep_model.specs.Schemas.{width_of};
+ghost use Rattle.schema_model.specs.Schemas.{width_of, theory_in};
 ghost use Rattle.plans.specs.Plans.{IsPlanOver, plan_of, scheme_sets};
 ghost use Rattle.ddl_text.specs.Ddl.{ddl_text};
 ghost use Rattle.desk_designs.specs.Designs.{IsSoundDesign, WritesForm, WritesPlan};
@@ -12,10 +12,11 @@ use crate::decomposition::plan_in_form;
 use crate::join::test_loss;
 use crate::missing::required_design;
 use ddl_text::{DesignList, design, print_ddl};
-use dep_model::{Form, Name, OutOfMemory, Schema};
+use dep_model::{Form, OutOfMemory};
 use design_order::in_design_order;
 use desk_responses::{EarlyExit, Response, Status};
 use plans::{MOST_SCHEMES, Plan};
+use schema_model::{Name, Schema};
 use std::alloc::Global;
 use table_names::MOST_TABLES;
 
@@ -42,7 +43,7 @@ pub fn write_plan(
     plan: &Plan,
     names: &[Option<Name>],
 ) -> Result<Response, EarlyExit>
-    requires universe { IsPlanOver schema.now plan.now }
+    requires universe { IsPlanOver (theory_in schema.now) plan.now }
     requires within_limit { length (plan_of plan.now) ≤ MOST_SCHEMES }
     requires covers { Covers (width_of schema.now) (plan_of plan.now) }
     ensures response { RespondsAs (WritesPlan schema.now names.now (plan_of plan.now)) result }
@@ -78,10 +79,10 @@ pub fn design_of_plan(
     plan: &Plan,
     names: &[Option<Name>],
 ) -> Result<DesignList, OutOfMemory>
-    requires universe { IsPlanOver schema.now plan.now }
+    requires universe { IsPlanOver (theory_in schema.now) plan.now }
     ensures sound { IfOk result (λ tables. IsSoundDesign schema.now names.now (scheme_sets plan.now) tables) }
 {
-    let ordered = in_design_order(alloc, schema, plan)?;
+    let ordered = in_design_order(alloc, &schema.theory(), plan)?;
     if ordered.schemes().len() > MOST_TABLES as usize {
         return Err(OutOfMemory);
     }

@@ -1,13 +1,15 @@
 ghost use Rattle.std.specs.Prelude.{IfOk};
 ghost use Rattle.plans.specs.Plans.{IsPlanOver, plan_of, scheme_sets};
 ghost use Rattle.desk_designs.specs.Drawings.{DrawsForm, DrawsSchemes, DrawsTables};
+ghost use Rattle.schema_model.specs.Schemas.{theory_in};
 ghost use Rattle.desk_responses.specs.Responses.{response_value, RespondsAs};
 
 use crate::decomposition::plan_in_form;
 use crate::designs::design_of_plan;
-use dep_model::{Form, Name, OutOfMemory, Schema};
+use dep_model::{Form, OutOfMemory};
 use desk_responses::{EarlyExit, Response, Status};
 use plans::Plan;
+use schema_model::{Name, Schema};
 use std::alloc::Global;
 use table_drawing::draw;
 
@@ -29,7 +31,7 @@ pub fn draw_plan(
     plan: &Plan,
     names: &[Option<Name>],
 ) -> Result<Response, EarlyExit>
-    requires universe { IsPlanOver schema.now plan.now }
+    requires universe { IsPlanOver (theory_in schema.now) plan.now }
     ensures response { RespondsAs (DrawsSchemes schema.now names.now (plan_of plan.now)) result }
 {
     Ok(drawing_response(alloc, schema, plan, names)?)
@@ -42,7 +44,7 @@ fn drawing_response(
     plan: &Plan,
     names: &[Option<Name>],
 ) -> Result<Response, OutOfMemory>
-    requires universe { IsPlanOver schema.now plan.now }
+    requires universe { IsPlanOver (theory_in schema.now) plan.now }
     ensures response { IfOk result (λ response. DrawsTables schema.now names.now (scheme_sets plan.now)
         (response_value response)) }
 {

@@ -3,7 +3,7 @@ ghost use Rattle.attr_sets.specs.Attributes.{IsSubset};
 ghost use Rattle.attr_sets.specs.Sets.{attributes};
 ghost use Rattle.dep_model.specs.Deps.{dependency_of};
 ghost use Rattle.dep_model.specs.Plans.{schemes_of};
-ghost use Rattle.dep_model.specs.Schemas.{universe_of};
+ghost use Rattle.schema_model.specs.Schemas.{universe_of, theory_in};
 ghost use Rattle.plans.specs.Plans.{IsPlanOver, plan_of};
 ghost use Rattle.desk_responses.specs.ResponseValues.{Says};
 ghost use Rattle.desk_designs.specs.NormalForms.{EndsForm, JudgesForm, PassesForm, form_word, in_form_text, violated_text, violation_of};
@@ -14,11 +14,12 @@ ghost use Rattle.desk_texts.specs.Texts.{line};
 
 use attr_sets::AttrSet;
 use byte_texts::add;
-use dep_model::{Dep, Form, OutOfMemory, Schema};
+use dep_model::{Dep, Form, OutOfMemory};
 use desk_responses::{EarlyExit, Response, Status, too_wide_exit};
 use desk_texts::line_of;
 use normal_forms::{Breach, violation};
 use plans::Plan;
+use schema_model::Schema;
 use schema_printer::{add_dep, add_set};
 use std::alloc::Global;
 
@@ -29,7 +30,7 @@ pub fn check_form(
     form: Form,
     plan: &Plan,
 ) -> Result<Response, EarlyExit>
-    requires universe { IsPlanOver schema.now plan.now }
+    requires universe { IsPlanOver (theory_in schema.now) plan.now }
     ensures response { RespondsAs (JudgesForm schema.now form (plan_of plan.now)) result }
 {
     judge_schemes(alloc, schema, form, plan.schemes())
@@ -79,7 +80,7 @@ fn test_scheme(alloc: Global, schema: &Schema, form: Form, scheme: AttrSet) -> R
     ensures passes { IfOk result (λ _. PassesForm schema.now form (attributes scheme)) }
     ensures ends { IfErr result (ExitsAs (EndsForm schema.now form (attributes scheme))) }
 {
-    match violation(schema, scheme, form) {
+    match violation(&schema.theory(), scheme, form) {
         Ok(None) => Ok(()),
         Ok(Some(breach)) => Err(violation_exit(alloc, schema, form, scheme, breach)),
         Err(_) => Err(too_wide_exit(alloc, schema, scheme)),

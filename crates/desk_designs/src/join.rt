@@ -1,7 +1,7 @@
 ghost use Rattle.std.specs.Prelude.{◌≡◌, ◌≤◌, length, IfOk, IfErr};
 ghost use Rattle.dep_model.specs.Plans.{schemes_of};
 ghost use Rattle.dep_model.specs.Projections.{Covers};
-ghost use Rattle.dep_model.specs.Schemas.{width_of};
+ghost use Rattle.schema_model.specs.Schemas.{width_of};
 ghost use Rattle.dep_model.specs.Tuples.{IsOver};
 ghost use Rattle.typed_rows.specs.Typed.{HoldsNumerals};
 ghost use Rattle.plans.specs.Plans.{plan_of};
@@ -11,10 +11,11 @@ ghost use Rattle.desk_responses.specs.Responses.{response_value, RespondsAs, Exi
 
 use attr_sets::AttrSet;
 use byte_texts::add;
-use dep_model::{Failure, OutOfMemory, Row, Schema};
+use dep_model::{Failure, OutOfMemory, Row};
 use desk_responses::{EarlyExit, Response, Status};
 use desk_texts::line_of;
 use plans::{MOST_SCHEMES, Plan};
+use schema_model::Schema;
 use std::alloc::Global;
 use tableau_chase::{ChaseRefusal, Chased, chase};
 use typed_rows::{print_made_up, print_zeros};
@@ -52,7 +53,7 @@ fn test_schemes(alloc: Global, schema: &Schema, schemes: &[AttrSet]) -> Result<(
     ensures ok { IfOk result (λ _. IsShownLossless schema.now (schemes_of schemes.now)) }
     ensures exit { IfErr result (ExitsAs (LossStops schema.now (schemes_of schemes.now))) }
 {
-    match chase(alloc, schema, schemes, MOST_TABLEAU_ROWS) {
+    match chase(alloc, &schema.theory(), schemes, MOST_TABLEAU_ROWS) {
         Ok(Chased::Lossless) => Ok(()),
         Ok(Chased::Lossy(rows)) => Err(lossy_exit(alloc, schema, &rows)),
         Err(Failure::Refused(ChaseRefusal::TooManyRows)) => Err(too_many_rows_exit(alloc)),

@@ -3,24 +3,25 @@ ghost use Rattle.std.specs.List.{flat_map};
 ghost use Rattle.attr_sets.specs.Attributes.{IsSubset};
 ghost use Rattle.attr_sets.specs.Sets.{attributes};
 ghost use Rattle.dep_model.specs.Plans.{schemes_of};
-ghost use Rattle.dep_model.specs.Schemas.{universe_of};
+ghost use Rattle.schema_model.specs.Schemas.{universe_of, theory_in};
 ghost use Rattle.plans.specs.Plans.{IsPlanOver, plan_of};
 ghost use Rattle.desk_designs.specs.Keeping.{JudgesKeeping, loss_text, two_tuples_text};
 ghost use Rattle.desk_responses.specs.Responses.{response_value, RespondsAs};
 
 use attr_sets::AttrSet;
 use byte_texts::add;
-use dep_model::{OutOfMemory, Schema};
+use dep_model::OutOfMemory;
 use desk_responses::{EarlyExit, Response, Status, put_dep, put_line};
 use desk_texts::line_of;
 use plans::Plan;
 use preservation::{Loss, losses};
+use schema_model::Schema;
 use std::alloc::Global;
 use typed_rows::print_two_rows;
 
 /// Whether a plan keeps the functional dependencies.
 pub fn check_keeps(alloc: Global, schema: &Schema, plan: &Plan) -> Result<Response, EarlyExit>
-    requires universe { IsPlanOver schema.now plan.now }
+    requires universe { IsPlanOver (theory_in schema.now) plan.now }
     ensures response { RespondsAs (JudgesKeeping schema.now (plan_of plan.now)) result }
 {
     Ok(judge_keeping(alloc, schema, plan.schemes())?)
@@ -37,7 +38,7 @@ fn judge_keeping(
     ensures response { IfOk result
         (λ response. JudgesKeeping schema.now (schemes_of schemes.now) (response_value response)) }
 {
-    let losses = losses(alloc, schema, schemes)?;
+    let losses = losses(alloc, &schema.theory(), schemes)?;
     match losses.as_slice() {
         [] => Ok(Response::with_text(
             Status::Yes,

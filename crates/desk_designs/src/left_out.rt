@@ -6,8 +6,9 @@ ghost use Rattle.desk_designs.specs.LeftOut.{holder_text, left_out_text, within_
 
 use attr_sets::AttrSet;
 use byte_texts::add;
-use dep_model::{OutOfMemory, Schema};
+use dep_model::OutOfMemory;
 use plans::is_contained_at;
+use schema_model::Schema;
 use schema_printer::add_set;
 
 /// A line for each scheme of a list that is left out, with the first of those kept that holds it, at the

@@ -1,7 +1,7 @@
 //! Whether values that may be missing keep a plan from being tables.
 
 ghost use Rattle.std.specs.Prelude.{length, IfOk, IfErr};
-ghost use Rattle.dep_model.specs.Schemas.{nullable_of, width_of};
+ghost use Rattle.schema_model.specs.Schemas.{nullable_of, width_of, theory_in};
 ghost use Rattle.plans.specs.Plans.{IsPlanOver, plan_of, scheme_sets};
 ghost use Rattle.desk_designs.specs.Designs.{AreNeverMissing, IsSoundDesign, MissingStops};
 ghost use Rattle.desk_responses.specs.ResponseValues.{Says};
@@ -12,10 +12,10 @@ ghost use Rattle.missing_values.specs.Refusals.{IsWithin, refusal_text};
 
 use crate::designs::design_of_plan;
 use ddl_text::DesignList;
-use dep_model::{Name, Schema};
 use desk_responses::{EarlyExit, Status};
 use missing_values::{MissingRefusal, missing_refusal, print_refusal};
 use plans::Plan;
+use schema_model::{Name, Schema};
 use std::alloc::Global;
 
 /// Tests that no value of a key of the tables of a plan may be missing, and none of an attribute of two.
@@ -25,7 +25,7 @@ pub fn test_missing(
     plan: &Plan,
     names: &[Option<Name>],
 ) -> Result<(), EarlyExit>
-    requires universe { IsPlanOver schema.now plan.now }
+    requires universe { IsPlanOver (theory_in schema.now) plan.now }
     ensures ok { IfOk result (λ _. AreNeverMissing schema.now names.now (plan_of plan.now)) }
     ensures exit { IfErr result (ExitsAs (MissingStops schema.now names.now (plan_of plan.now))) }
 {
@@ -43,7 +43,7 @@ pub fn required_design(
     plan: &Plan,
     names: &[Option<Name>],
 ) -> Result<DesignList, EarlyExit>
-    requires universe { IsPlanOver schema.now plan.now }
+    requires universe { IsPlanOver (theory_in schema.now) plan.now }
     ensures sound { IfOk result (λ tables. IsSoundDesign schema.now names.now (scheme_sets plan.now) tables) }
     ensures never_missing { IfOk result (λ tables. NeverMissing (nullable_of schema.now) tables) }
     ensures exit { IfErr result (ExitsAs (MissingStops schema.now names.now (plan_of plan.now))) }

@@ -2,7 +2,7 @@ ghost use Rattle.std.specs.Prelude.{◌≡◌, ◌++◌, IfOk, OnOk};
 ghost use Rattle.std.specs.List.{flat_map};
 ghost use Rattle.attr_sets.specs.Sets.{attributes};
 ghost use Rattle.dep_model.specs.Plans.{schemes_of};
-ghost use Rattle.dep_model.specs.Schemas.{width_of, theory_of};
+ghost use Rattle.schema_model.specs.Schemas.{width_of, theory_of};
 ghost use Rattle.dep_model.specs.declared.form.Form.TheVariants as forms;
 ghost use Rattle.plans.specs.Containing.{without_contained};
 ghost use Rattle.schema_printer.specs.Spelling.{printed_names_of};
@@ -17,9 +17,10 @@ use crate::synthesis_reasons::explain_synthesis;
 use crate::{MOST_SPLIT_SCHEMES, split_exit, violation_dependency, word_of};
 use attr_sets::AttrSet;
 use byte_texts::add;
-use dep_model::{Failure, Form, OutOfMemory, Schema};
+use dep_model::{Failure, Form, OutOfMemory};
 use desk_responses::{EarlyExit, Response, Status};
 use plan_printer::print_plan;
+use schema_model::Schema;
 use schema_printer::{add_dep, add_set};
 use split_forms::{SchemeCut, SplitSteps, plan_of_steps, split_steps};
 use std::alloc::Global;
@@ -41,7 +42,7 @@ fn explain_cuts(alloc: Global, schema: &Schema, form: Form) -> Result<Response, 
     requires form { form ≡ forms.Third → ⊥ }
     ensures response { RespondsAs (ExplainsCuts schema.now form) result }
 {
-    match split_steps(alloc, schema, form, MOST_SPLIT_SCHEMES) {
+    match split_steps(alloc, &schema.theory(), form, MOST_SPLIT_SCHEMES) {
         Ok(steps) => Ok(explained_cuts(alloc, schema, &steps)?),
         Err(Failure::Refused(refusal)) => Err(split_exit(alloc, schema, refusal)),
         Err(Failure::OutOfMemory) => Err(EarlyExit::OutOfMemory),
@@ -61,7 +62,7 @@ fn explained_cuts(
     ensures response { IfOk result
         (λ response. ExplainsCuts schema.now steps.now.form (response_value response)) }
 {
-    let plan = plan_of_steps(alloc, schema, steps)?;
+    let plan = plan_of_steps(alloc, &schema.theory(), steps)?;
     let mut text = print_reasons(
         alloc,
         schema,

@@ -3,9 +3,10 @@ ghost use Rattle.desk_responses.specs.Responses.{response_value, RespondsAs};
 ghost use Rattle.desk_designs.specs.Synthesis.{Synthesizes};
 
 use crate::decomposition::third_form_plan;
-use dep_model::{OutOfMemory, Schema};
+use dep_model::OutOfMemory;
 use desk_responses::{EarlyExit, Response, Status};
 use plan_printer::print_plan;
+use schema_model::Schema;
 use std::alloc::Global;
 
 /// A plan in third normal form that loses nothing and keeps the functional dependencies.

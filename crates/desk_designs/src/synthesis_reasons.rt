@@ -12,9 +12,10 @@ ghost use Rattle.desk_designs.specs.SynthesisReasons.{ExplainsSynthesis, cover_t
 use crate::left_out::put_left_out;
 use attr_sets::AttrSet;
 use byte_texts::add;
-use dep_model::{Dep, OutOfMemory, Schema};
+use dep_model::{Dep, OutOfMemory};
 use desk_responses::{EarlyExit, Response, Status};
 use plan_printer::print_plan;
+use schema_model::Schema;
 use schema_printer::{add_dep, add_set};
 use std::alloc::Global;
 use synthesis_3nf::{group_scheme, plan_of_steps, synthesis_steps};
@@ -30,8 +31,9 @@ pub fn explain_synthesis(alloc: Global, schema: &Schema) -> Result<Response, Ear
 fn explained_synthesis(alloc: Global, schema: &Schema) -> Result<Response, OutOfMemory>
     ensures response { IfOk result (λ response. ExplainsSynthesis schema.now (response_value response)) }
 {
-    let steps = synthesis_steps(alloc, schema)?;
-    let plan = plan_of_steps(alloc, schema, &steps)?;
+    let theory = schema.theory();
+    let steps = synthesis_steps(alloc, &theory, schema.nullable())?;
+    let plan = plan_of_steps(alloc, &theory, &steps)?;
     let mut text = print_reasons(
         alloc,
         schema,

@@ -6,7 +6,7 @@ use Rattle.std.specs.Prelude.{codes, ◌==◌}
 use Rattle.std.specs.Fmt.{decimal}
 use Rattle.dep_model.specs.Deps.{dependencies_of, dependency_of}
 use Rattle.dep_model.specs.declared.dep.Dep.{Dep}
-use Rattle.dep_model.specs.declared.schema.Schema.{Schema}
+use Rattle.schema_model.specs.Schemas.{Schema}
 use Rattle.headed_rows.specs.Headers.{naming_under}
 use Rattle.schema_printer.specs.Printing.{dependency_text, lines_text, schema_text}
 use Rattle.schema_printer.specs.Spelling.{spelling, printed_names_of}

@@ -7,17 +7,17 @@ use Rattle.std.proofs.lemmas.List.Sums.{AllPass-from_list_all}
 use Rattle.std.specs.List.{list_all, list_any}
 use Rattle.std.specs.Prelude.{not, codes, IsTrue, All}
 use Rattle.attr_sets.specs.Attributes.{Attributes, none}
-use Rattle.dep_model.proofs.ColumnLemmas.{AreDeclared-text}
-use Rattle.dep_model.specs.Columns.{is_column_type}
+use Rattle.schema_model.proofs.ColumnLemmas.{AreDeclared-text}
+use Rattle.schema_model.specs.Columns.{is_column_type}
 use Rattle.dep_model.specs.Dependencies.{Dependency}
-use Rattle.dep_model.specs.Names.{is_bare_name}
-use Rattle.dep_model.specs.Schemas.{naming_of, types_of, names_of, nullable_of}
-use Rattle.dep_model.specs.Validity.{AreDeclared}
-use Rattle.dep_model.specs.declared.column_type.ColumnType.{ColumnType}
-use Rattle.dep_model.specs.declared.column_type.ColumnType.TheVariants.{Text}
-use Rattle.dep_model.specs.declared.naming.Naming.{Naming}
-use Rattle.dep_model.specs.declared.naming.Naming.TheVariants.{Bare, Any}
-use Rattle.dep_model.specs.declared.schema.Schema.{Schema}
+use Rattle.schema_model.specs.Names.{is_bare_name}
+use Rattle.schema_model.specs.Schemas.{naming_of, types_of, names_of, nullable_of}
+use Rattle.schema_model.specs.Validity.{AreDeclared}
+use Rattle.schema_model.specs.declared.column_type.ColumnType.{ColumnType}
+use Rattle.schema_model.specs.declared.column_type.ColumnType.TheVariants.{Text}
+use Rattle.schema_model.specs.declared.naming.Naming.{Naming}
+use Rattle.schema_model.specs.declared.naming.Naming.TheVariants.{Bare, Any}
+use Rattle.schema_model.specs.Schemas.{Schema}
 use Rattle.headed_rows.specs.Headers.{is_plain_name, naming_under}
 use Rattle.schema_grammar.specs.Words.{is_reserved}
 use Rattle.schema_grammar.specs.declared.format.Format.TheVariants as format

@@ -2,8 +2,7 @@
 use Rattle.std.specs.Prelude.{ℕ, List, length}
 use Rattle.dep_model.specs.Dependencies.{Dependency}
 use Rattle.dep_model.specs.Tuples.{Relation}
-use Rattle.headed_rows.specs.declared.headed_rows.Headed.{Headed}
-use Rattle.headed_rows.specs.Headings.{names_under, rows_under}
+use Rattle.headed_rows.specs.Headings.{HeadedRows}
 use Rattle.mvd_discovery.specs.Finding.{AreAllRules}
 use Rattle.mvd_laws.specs.Covers.{IsCoverOfAll}
 use Rattle.desk_responses.specs.declared.status.Status.TheVariants.{Yes}
@@ -17,7 +16,7 @@ pub record AreAllRulesOf (n : ℕ) (rows : Relation) (ds : List Dependency) : Ty
   pub cover : IsCoverOfAll n rows ds
 
 -- yes, with these
-abbrev pub FindsAllRules : Headed → Allowed
+abbrev pub FindsAllRules : HeadedRows → Allowed
 FindsAllRules headed response =
-    (ds : List Dependency) × AreAllRulesOf (length (names_under headed)) (rows_under headed) ds
-    × Says Yes (found_text (names_under headed) ds) response
+    (ds : List Dependency) × AreAllRulesOf (length headed.names) headed.rows ds
+    × Says Yes (found_text headed.names ds) response

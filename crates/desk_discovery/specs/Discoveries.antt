@@ -6,15 +6,14 @@ use Rattle.candidate_search.specs.Sides.{IsTooManyLeftSides}
 use Rattle.candidate_search.specs.declared.side.TooManyLeftSides.{TooManyLeftSides}
 use Rattle.dep_model.specs.Dependencies.{Dependency, fd, ObeysFd}
 use Rattle.dep_model.specs.Implication.{Implies}
-use Rattle.dep_model.specs.Schemas.{naming_of, names_of, types_of, nullable_of}
+use Rattle.schema_model.specs.Schemas.{naming_of, names_of, types_of, nullable_of}
 use Rattle.dep_model.specs.Tuples.{Relation}
-use Rattle.dep_model.specs.declared.column_type.ColumnType.TheVariants.{Text}
-use Rattle.dep_model.specs.declared.naming.Naming.{Naming}
-use Rattle.dep_model.specs.declared.naming.Naming.TheVariants.{Bare, Any}
-use Rattle.dep_model.specs.declared.schema.Schema.{Schema}
-use Rattle.headed_rows.specs.declared.headed_rows.Headed.{Headed}
+use Rattle.schema_model.specs.declared.column_type.ColumnType.TheVariants.{Text}
+use Rattle.schema_model.specs.declared.naming.Naming.{Naming}
+use Rattle.schema_model.specs.declared.naming.Naming.TheVariants.{Bare, Any}
+use Rattle.schema_model.specs.Schemas.{Schema}
+use Rattle.headed_rows.specs.Headings.{HeadedRows}
 use Rattle.headed_rows.specs.Headers.{naming_under}
-use Rattle.headed_rows.specs.Headings.{names_under, rows_under}
 use Rattle.fd_discovery.specs.Minimal.{AreAllMinimal}
 use Rattle.fd_search.specs.Small.{AreAllSmall}
 use Rattle.schema_printer.specs.Printing.{words_text, dependency_text, lines_text}
@@ -70,35 +69,35 @@ pub record AreRulesOf (n : ℕ) (rows : Relation) (ds : List Dependency) : Type 
 
 -- there are more columns than those of which all sets are tried, and some evidence of the rows has too many
 -- candidates of at most so many columns for the left sides of a column
-pub record HasTooManyLeftSides (most : ℕ) (headed : Headed) (refusal : TooManyLeftSides) : Type 0 where
-  pub wide : WIDEST_TRIED < length (names_under headed)
-  pub exceeded : IsTooManyLeftSides (length (names_under headed)) most (rows_under headed) refusal
+pub record HasTooManyLeftSides (most : ℕ) (headed : HeadedRows) (refusal : TooManyLeftSides) : Type 0 where
+  pub wide : WIDEST_TRIED < length headed.names
+  pub exceeded : IsTooManyLeftSides (length headed.names) most headed.rows refusal
 
 -- yes, with these
-abbrev pub GivesRules : Headed → Allowed
+abbrev pub GivesRules : HeadedRows → Allowed
 GivesRules headed response =
-    (ds : List Dependency) × AreRulesOf (length (names_under headed)) (rows_under headed) ds
-    × Says Yes (found_text (names_under headed) ds) response
+    (ds : List Dependency) × AreRulesOf (length headed.names) headed.rows ds
+    × Says Yes (found_text headed.names ds) response
 
 -- refused, with the name of the file and of such a column
-abbrev pub RefusesRules : ℕ → List ℕ → Headed → Allowed
+abbrev pub RefusesRules : ℕ → List ℕ → HeadedRows → Allowed
 RefusesRules most file headed response =
     (refusal : TooManyLeftSides) × HasTooManyLeftSides most headed refusal
-    × Says Refused (left_sides_text file (names_under headed) refusal.right) response
+    × Says Refused (left_sides_text file headed.names refusal.right) response
 
 -- the rules of a file of this name, or the refusal of a column that has too many left sides
-abbrev pub FindsRules : List ℕ → Headed → Allowed
+abbrev pub FindsRules : List ℕ → HeadedRows → Allowed
 FindsRules file headed response =
-    GivesRules headed response ⊎ RefusesRules (length (names_under headed)) file headed response
+    GivesRules headed response ⊎ RefusesRules (length headed.names) file headed response
 
 -- ---- few attributes on the left
 -- yes, with exactly the minimal dependencies of at most so many attributes on the left, in order
-abbrev pub GivesSmallRules : ℕ → Headed → Allowed
+abbrev pub GivesSmallRules : ℕ → HeadedRows → Allowed
 GivesSmallRules most headed response =
-    (ds : List Dependency) × AreAllSmall (length (names_under headed)) most (rows_under headed) ds
-    × Says Yes (found_text (names_under headed) ds) response
+    (ds : List Dependency) × AreAllSmall (length headed.names) most headed.rows ds
+    × Says Yes (found_text headed.names ds) response
 
 -- these of a file of this name, or the refusal of a column that has too many left sides of so many attributes
-abbrev pub FindsSmallRules : ℕ → List ℕ → Headed → Allowed
+abbrev pub FindsSmallRules : ℕ → List ℕ → HeadedRows → Allowed
 FindsSmallRules most file headed response =
     GivesSmallRules most headed response ⊎ RefusesRules most file headed response

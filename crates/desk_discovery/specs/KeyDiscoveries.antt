@@ -2,9 +2,8 @@
 use Rattle.std.specs.Prelude.{◌⊎◌, ℕ, List, ◌++◌, codes, length, map}
 use Rattle.std.specs.List.{flat_map}
 use Rattle.attr_sets.specs.Attributes.{Attributes}
-use Rattle.headed_rows.specs.declared.headed_rows.Headed.{Headed}
+use Rattle.headed_rows.specs.Headings.{HeadedRows}
 use Rattle.headed_rows.specs.Headers.{naming_under}
-use Rattle.headed_rows.specs.Headings.{names_under, rows_under}
 use Rattle.fd_search.specs.Keys.{AreRowKeys, HasTooManyKeys}
 use Rattle.schema_printer.specs.Printing.{set_text}
 use Rattle.schema_printer.specs.Spelling.{spelling}
@@ -21,17 +20,17 @@ abbrev pub too_many_row_keys_text : List ℕ → List ℕ
 too_many_row_keys_text file = line (codes "refused: discover 7 at " ++ file ++ codes ": too many keys")
 
 -- yes, with exactly the minimal keys, ascending
-abbrev pub GivesRowKeys : Headed → Allowed
+abbrev pub GivesRowKeys : HeadedRows → Allowed
 GivesRowKeys headed response =
-    (keys : List Attributes) × AreRowKeys (length (names_under headed)) (rows_under headed) keys
-    × Says Yes (row_keys_text (names_under headed) keys) response
+    (keys : List Attributes) × AreRowKeys (length headed.names) headed.rows keys
+    × Says Yes (row_keys_text headed.names keys) response
 
 -- refused: some evidence of different rows has too many candidates
-abbrev pub RefusesRowKeys : List ℕ → Headed → Allowed
+abbrev pub RefusesRowKeys : List ℕ → HeadedRows → Allowed
 RefusesRowKeys file headed response =
-    HasTooManyKeys (length (names_under headed)) (rows_under headed)
+    HasTooManyKeys (length headed.names) headed.rows
     × Says Refused (too_many_row_keys_text file) response
 
 -- the keys of the rows of a file of this name, or that refusal
-abbrev pub FindsRowKeys : List ℕ → Headed → Allowed
+abbrev pub FindsRowKeys : List ℕ → HeadedRows → Allowed
 FindsRowKeys file headed response = GivesRowKeys headed response ⊎ RefusesRowKeys file headed response

@@ -2,10 +2,9 @@
 use Rattle.std.specs.Prelude.{◌⊎◌, ◌==◌, ℕ, List, [], ◌∷◌, ◌++◌, codes, length, map, if◌then◌else◌}
 use Rattle.std.specs.Fmt.{decimal}
 use Rattle.dep_model.specs.Dependencies.{Dependency}
-use Rattle.dep_model.specs.declared.naming.Naming.{Naming}
-use Rattle.headed_rows.specs.declared.headed_rows.Headed.{Headed}
+use Rattle.schema_model.specs.declared.naming.Naming.{Naming}
+use Rattle.headed_rows.specs.Headings.{HeadedRows}
 use Rattle.headed_rows.specs.Headers.{naming_under}
-use Rattle.headed_rows.specs.Headings.{names_under, rows_under}
 use Rattle.near_rules.specs.NearRules.{AreNearRules, IsFirstExceeded, IsTriedWhole}
 use Rattle.near_rules.specs.declared.found.TooManyTried.{TooManyTried}
 use Rattle.schema_printer.specs.Printing.{dependency_text, lines_text}
@@ -37,21 +36,21 @@ near_text names ds errors =
 
 -- yes, where for no column too many sets must be tried, with exactly the minimal dependencies that nearly hold, in
 -- order, each with its error
-abbrev pub GivesNearRules : ℕ → ℕ → Headed → Allowed
+abbrev pub GivesNearRules : ℕ → ℕ → HeadedRows → Allowed
 GivesNearRules limit most headed response =
     (ds : List Dependency) × (errors : List ℕ)
-    × AreNearRules (length (names_under headed)) most limit (rows_under headed) ds errors
-    × IsTriedWhole (length (names_under headed)) most limit (rows_under headed)
-    × Says Yes (near_text (names_under headed) ds errors) response
+    × AreNearRules (length headed.names) most limit headed.rows ds errors
+    × IsTriedWhole (length headed.names) most limit headed.rows
+    × Says Yes (near_text headed.names ds errors) response
 
 -- refused, with the name of the file and of the first column for which too many sets must be tried
-abbrev pub RefusesNearRules : ℕ → ℕ → List ℕ → Headed → Allowed
+abbrev pub RefusesNearRules : ℕ → ℕ → List ℕ → HeadedRows → Allowed
 RefusesNearRules limit most file headed response =
     (refusal : TooManyTried)
-    × IsFirstExceeded (length (names_under headed)) most limit (rows_under headed) refusal
-    × Says Refused (left_sides_text file (names_under headed) refusal.right) response
+    × IsFirstExceeded (length headed.names) most limit headed.rows refusal
+    × Says Refused (left_sides_text file headed.names refusal.right) response
 
 -- these of a file of this name, or that refusal
-abbrev pub FindsNearRules : ℕ → ℕ → List ℕ → Headed → Allowed
+abbrev pub FindsNearRules : ℕ → ℕ → List ℕ → HeadedRows → Allowed
 FindsNearRules limit most file headed response =
     GivesNearRules limit most headed response ⊎ RefusesNearRules limit most file headed response

@@ -1,7 +1,7 @@
 ghost use Rattle.std.specs.Prelude.{◌≤◌, ◌<◌, length};
 ghost use Rattle.dep_model.specs.Tuples.{IsOver};
 ghost use Rattle.headed_rows.specs.Headers.{IsHeaderWithin};
-ghost use Rattle.headed_rows.specs.Headings.{names_under, rows_under};
+ghost use Rattle.headed_rows.specs.Headings.{headed_of};
 ghost use Rattle.row_store.specs.declared.limits.TheConstants.{MOST_ROWS_WITH_ALL, WIDEST_WITH_ALL};
 ghost use Rattle.desk_discovery.specs.AllDiscoveries.{FindsAllRules};
 ghost use Rattle.desk_responses.specs.Responses.{RespondsAs};
@@ -19,11 +19,11 @@ pub fn discover_all_rules(
     hashing: Hashing,
     headed: Headed,
 ) -> Result<Response, EarlyExit>
-    requires header { IsHeaderWithin WIDEST_WITH_ALL (names_under headed) }
-    requires any_name { 0 < length (names_under headed) }
-    requires same_width { IsOver (length (names_under headed)) (rows_under headed) }
-    requires within_limit { length (rows_under headed) ≤ MOST_ROWS_WITH_ALL }
-    ensures response { RespondsAs (FindsAllRules headed) result }
+    requires header { IsHeaderWithin WIDEST_WITH_ALL headed.names.items }
+    requires any_name { 0 < length headed.names.items }
+    requires same_width { IsOver (length headed.names.items) headed.rows }
+    requires within_limit { length headed.rows ≤ MOST_ROWS_WITH_ALL }
+    ensures response { RespondsAs (FindsAllRules (headed_of headed)) result }
 {
     let Headed { names, rows } = headed;
     let deps = discover_all(alloc, hashing, names.len() as u8, &rows)?;

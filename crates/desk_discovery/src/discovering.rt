@@ -7,7 +7,7 @@ ghost use Rattle.dep_model.specs.Failures.{RefusesAs};
 ghost use Rattle.dep_model.specs.Implication.{Implies};
 ghost use Rattle.dep_model.specs.Tuples.{IsOver};
 ghost use Rattle.headed_rows.specs.Headers.{IsColumnHeader};
-ghost use Rattle.headed_rows.specs.Headings.{names_under, rows_under};
+ghost use Rattle.headed_rows.specs.Headings.{headed_of};
 ghost use Rattle.fd_discovery.specs.Minimal.{AreAllMinimal};
 ghost use Rattle.row_store.specs.declared.limits.TheConstants.{MOST_HEADED_ROWS, WIDEST_HEADED};
 ghost use Rattle.desk_discovery.specs.Discoveries.{FindsRules, HasTextColumns, column_text, found_text, left_sides_text, rules_text};
@@ -18,13 +18,14 @@ use arguments::Argument;
 use attr_sets::AttrSet;
 use byte_texts::add;
 use candidate_search::TooManyLeftSides;
-use dep_model::{ColumnType, Dep, Failure, Name, OutOfMemory, Schema};
+use dep_model::{Dep, Failure, OutOfMemory};
 use desk_responses::{EarlyExit, Response, Status};
 use desk_texts::overlong_comment;
 use fd_discovery::discover;
 use fd_search::minimal_dependencies;
 use headed_rows::{Headed, naming_under};
 use row_store::{Hashing, Rows};
+use schema_model::{ColumnType, Name, Schema};
 use schema_printer::{add_name, print_deps};
 use std::alloc::Global;
 
@@ -39,11 +40,11 @@ pub fn discover_rules(
     file: &Argument,
     headed: Headed,
 ) -> Result<Response, EarlyExit>
-    requires header { IsColumnHeader (names_under headed) }
-    requires any_name { 0 < length (names_under headed) }
-    requires same_width { IsOver (length (names_under headed)) (rows_under headed) }
-    requires within_limit { length (rows_under headed) ≤ MOST_HEADED_ROWS }
-    ensures response { RespondsAs (FindsRules file.now headed) result }
+    requires header { IsColumnHeader headed.names.items }
+    requires any_name { 0 < length headed.names.items }
+    requires same_width { IsOver (length headed.names.items) headed.rows }
+    requires within_limit { length headed.rows ≤ MOST_HEADED_ROWS }
+    ensures response { RespondsAs (FindsRules file.now (headed_of headed)) result }
 {
     let Headed { names, rows } = headed;
     match rules_of(alloc, hashing, names.len() as u8, &rows) {

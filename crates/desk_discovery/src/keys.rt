@@ -3,7 +3,7 @@ ghost use Rattle.attr_sets.specs.Sets.{attributes};
 ghost use Rattle.dep_model.specs.Plans.{schemes_of};
 ghost use Rattle.dep_model.specs.Tuples.{IsOver};
 ghost use Rattle.headed_rows.specs.Headers.{IsColumnHeader};
-ghost use Rattle.headed_rows.specs.Headings.{names_under, rows_under};
+ghost use Rattle.headed_rows.specs.Headings.{headed_of};
 ghost use Rattle.row_store.specs.declared.limits.TheConstants.{MOST_HEADED_ROWS};
 ghost use Rattle.schema_printer.specs.Printing.{set_text};
 ghost use Rattle.schema_printer.specs.Spelling.{printed_names_of};
@@ -16,12 +16,13 @@ use crate::discovering::schema_of_columns;
 use arguments::Argument;
 use attr_sets::AttrSet;
 use byte_texts::add;
-use dep_model::{Failure, Name, OutOfMemory, Schema};
+use dep_model::{Failure, OutOfMemory};
 use desk_responses::{EarlyExit, Response, Status};
 use desk_texts::line_of;
 use fd_search::row_keys;
 use headed_rows::Headed;
 use row_store::Hashing;
+use schema_model::{Name, Schema};
 use schema_printer::add_set;
 use std::alloc::Global;
 
@@ -32,11 +33,11 @@ pub fn discover_keys(
     file: &Argument,
     headed: Headed,
 ) -> Result<Response, EarlyExit>
-    requires header { IsColumnHeader (names_under headed) }
-    requires any_name { 0 < length (names_under headed) }
-    requires same_width { IsOver (length (names_under headed)) (rows_under headed) }
-    requires within_limit { length (rows_under headed) ≤ MOST_HEADED_ROWS }
-    ensures response { RespondsAs (FindsRowKeys file.now headed) result }
+    requires header { IsColumnHeader headed.names.items }
+    requires any_name { 0 < length headed.names.items }
+    requires same_width { IsOver (length headed.names.items) headed.rows }
+    requires within_limit { length headed.rows ≤ MOST_HEADED_ROWS }
+    ensures response { RespondsAs (FindsRowKeys file.now (headed_of headed)) result }
 {
     let Headed { names, rows } = headed;
     match row_keys(alloc, hashing, names.len() as u8, rows) {

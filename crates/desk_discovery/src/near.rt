@@ -2,7 +2,7 @@ ghost use Rattle.std.specs.Prelude.{◌≡◌, ◌++◌, ◌≤◌, ◌<◌, len
 ghost use Rattle.dep_model.specs.Deps.{dependencies_of};
 ghost use Rattle.dep_model.specs.Tuples.{IsOver};
 ghost use Rattle.headed_rows.specs.Headers.{IsColumnHeader};
-ghost use Rattle.headed_rows.specs.Headings.{names_under, rows_under};
+ghost use Rattle.headed_rows.specs.Headings.{headed_of};
 ghost use Rattle.row_store.specs.declared.limits.TheConstants.{MOST_HEADED_ROWS};
 ghost use Rattle.schema_printer.specs.Printing.{lines_text};
 ghost use Rattle.schema_printer.specs.Spelling.{printed_names_of};
@@ -13,12 +13,13 @@ ghost use Rattle.desk_responses.specs.Responses.{response_value, RespondsAs};
 use crate::discovering::{left_sides_exit, schema_of_columns};
 use arguments::Argument;
 use byte_texts::{add, add_number};
-use dep_model::{Dep, Failure, Name, OutOfMemory, Schema};
+use dep_model::{Dep, Failure, OutOfMemory};
 use desk_responses::{EarlyExit, Response, Status};
 use desk_texts::overlong_comment;
 use headed_rows::Headed;
 use near_rules::{NearRules, near_rules};
 use row_store::Hashing;
+use schema_model::{Name, Schema};
 use schema_printer::{add_dep, print_deps};
 use std::alloc::Global;
 
@@ -32,11 +33,11 @@ pub fn discover_near_rules(
     limit: u32,
     most: u8,
 ) -> Result<Response, EarlyExit>
-    requires header { IsColumnHeader (names_under headed) }
-    requires any_name { 0 < length (names_under headed) }
-    requires same_width { IsOver (length (names_under headed)) (rows_under headed) }
-    requires within_limit { length (rows_under headed) ≤ MOST_HEADED_ROWS }
-    ensures response { RespondsAs (FindsNearRules limit most file.now headed) result }
+    requires header { IsColumnHeader headed.names.items }
+    requires any_name { 0 < length headed.names.items }
+    requires same_width { IsOver (length headed.names.items) headed.rows }
+    requires within_limit { length headed.rows ≤ MOST_HEADED_ROWS }
+    ensures response { RespondsAs (FindsNearRules limit most file.now (headed_of headed)) result }
 {
     let Headed { names, rows } = headed;
     match near_rules(alloc, hashing, names.len() as u8, &rows, limit, most) {

@@ -6,7 +6,7 @@ ghost use Rattle.dep_model.specs.Deps.{dependencies_of, IsDepWithin};
 ghost use Rattle.dep_model.specs.Failures.{RefusesAs};
 ghost use Rattle.dep_model.specs.Tuples.{IsOver};
 ghost use Rattle.headed_rows.specs.Headers.{IsColumnHeader};
-ghost use Rattle.headed_rows.specs.Headings.{names_under, rows_under};
+ghost use Rattle.headed_rows.specs.Headings.{headed_of};
 ghost use Rattle.row_store.specs.declared.limits.TheConstants.{MOST_HEADED_ROWS, WIDEST_HEADED};
 ghost use Rattle.fd_search.specs.Small.{AreAllSmall};
 ghost use Rattle.desk_discovery.specs.Discoveries.{FindsSmallRules};
@@ -34,11 +34,11 @@ pub fn discover_small_rules(
     most: u8,
 ) -> Result<Response, EarlyExit>
     requires most { most ≤ MOST_ATTRIBUTES }
-    requires header { IsColumnHeader (names_under headed) }
-    requires any_name { 0 < length (names_under headed) }
-    requires same_width { IsOver (length (names_under headed)) (rows_under headed) }
-    requires within_limit { length (rows_under headed) ≤ MOST_HEADED_ROWS }
-    ensures response { RespondsAs (FindsSmallRules most file.now headed) result }
+    requires header { IsColumnHeader headed.names.items }
+    requires any_name { 0 < length headed.names.items }
+    requires same_width { IsOver (length headed.names.items) headed.rows }
+    requires within_limit { length headed.rows ≤ MOST_HEADED_ROWS }
+    ensures response { RespondsAs (FindsSmallRules most file.now (headed_of headed)) result }
 {
     let Headed { names, rows } = headed;
     match small_rules_of(alloc, hashing, names.len() as u8, most, &rows) {

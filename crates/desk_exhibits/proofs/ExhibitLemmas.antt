@@ -7,9 +7,9 @@ use Rattle.armstrong_rel.specs.Refusals.{IsFunctional, IsTooWideToExhibit}
 use Rattle.armstrong_rel.specs.declared.refusal.TheConstants.{MOST_EXHIBITED_ROWS}
 use Rattle.dep_model.specs.Dependencies.{Dependency, fd}
 use Rattle.dep_model.specs.Implication.{IsLegal}
-use Rattle.dep_model.specs.Schemas.{theory_of, types_of, width_of, LegalFor}
+use Rattle.schema_model.specs.Schemas.{theory_of, types_of, width_of, LegalFor, theory_in}
 use Rattle.dep_model.specs.Tuples.{Relation}
-use Rattle.dep_model.specs.declared.schema.Schema.{Schema}
+use Rattle.schema_model.specs.Schemas.{Schema}
 use Rattle.typed_rows.proofs.HeldNumerals.{exhibit_holds}
 use Rattle.typed_rows.specs.Shown.{shown_relation}
 use Rattle.typed_rows.specs.Typed.{HoldsNumerals, typed_tuple}
@@ -23,7 +23,7 @@ exhibit_numerals n ds rows is few =
     subst HoldsNumerals (sym is.tuples) (exhibit_holds n is.sets (omega (arith, few, count)))
 
 -- ---- what is shown
-pub shown_example : (s : Schema) (rows : Relation) → IsFunctional s → (IsTooWideToExhibit s → ⊥) → length rows ≤ MOST_EXHIBITED_ROWS
+pub shown_example : (s : Schema) (rows : Relation) → IsFunctional (theory_in s) → (IsTooWideToExhibit (theory_in s) → ⊥) → length rows ≤ MOST_EXHIBITED_ROWS
     → IsExhibit (width_of s) (theory_of s) rows → LegalFor s rows → IsArmstrong (width_of s) (theory_of s) rows → IsExample s (shown_relation s rows)
 shown_example s rows functional narrow few exhibit legal exact =
     let columns = types_of s in

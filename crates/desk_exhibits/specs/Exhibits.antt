@@ -6,8 +6,8 @@ use Rattle.armstrong_rel.specs.Refusals.{IsFunctional, IsTooWideToExhibit, IsRef
 use Rattle.armstrong_rel.specs.declared.refusal.TheConstants.{MOST_EXHIBITED_ROWS}
 use Rattle.column_values.specs.Values.{FitsColumns}
 use Rattle.csv_text.specs.Rows.{rows_text}
-use Rattle.dep_model.specs.Schemas.{names_of, width_of, theory_of, universe_of, LegalFor}
-use Rattle.dep_model.specs.declared.schema.Schema.{Schema}
+use Rattle.schema_model.specs.Schemas.{names_of, width_of, theory_of, universe_of, LegalFor, theory_in}
+use Rattle.schema_model.specs.Schemas.{Schema}
 use Rattle.dep_model.specs.Tuples.{Relation}
 use Rattle.schema_printer.specs.Spelling.{printed_names_of}
 use Rattle.typed_rows.specs.Shown.{shown_relation}
@@ -25,8 +25,8 @@ too_many_rows_text = line (codes "refused: too many rows")
 -- dependency exactly where that is implied. It is had only where all dependencies are functional and the schema
 -- is not too wide, and has no more rows than are printed
 pub record IsExample (schema : Schema) (rows : Relation) : Type 0 where
-  pub functional : IsFunctional schema
-  pub narrow : IsTooWideToExhibit schema → ⊥
+  pub functional : IsFunctional (theory_in schema)
+  pub narrow : IsTooWideToExhibit (theory_in schema) → ⊥
   pub within_limit : length rows ≤ MOST_EXHIBITED_ROWS
   pub numbers : Relation
   pub exhibit : IsExhibit (width_of schema) (theory_of schema) numbers
@@ -40,8 +40,8 @@ pub record IsExample (schema : Schema) (rows : Relation) : Type 0 where
 abbrev pub Exhibits : Schema → Allowed
 Exhibits schema response =
     ((rows : Relation) × IsExample schema rows × Says Yes (rows_text (names_of schema) rows) response)
-    ⊎ (((dep : ℕ) × IsRefusedExhibit schema (NotFunctional dep)
+    ⊎ (((dep : ℕ) × IsRefusedExhibit (theory_in schema) (NotFunctional dep)
     × Says Refused (multivalued_text schema dep) response)
-    ⊎ ((IsRefusedExhibit schema TooWide
+    ⊎ ((IsRefusedExhibit (theory_in schema) TooWide
     × Says Refused (too_wide_text (printed_names_of schema) (universe_of schema)) response)
-    ⊎ (IsRefusedExhibit schema TooManyRows × Says Refused too_many_rows_text response)))
+    ⊎ (IsRefusedExhibit (theory_in schema) TooManyRows × Says Refused too_many_rows_text response)))

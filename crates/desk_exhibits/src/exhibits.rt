@@ -1,5 +1,5 @@
 ghost use Rattle.std.specs.Prelude.{◌≡◌, ◌<◌, IfOk};
-ghost use Rattle.dep_model.specs.Schemas.{names_of, width_of};
+ghost use Rattle.schema_model.specs.Schemas.{names_of, width_of};
 ghost use Rattle.dep_model.specs.Tuples.{IsOver};
 ghost use Rattle.csv_text.specs.Rows.{rows_text};
 ghost use Rattle.typed_rows.specs.Shown.{shown_relation};
@@ -11,8 +11,9 @@ ghost use Rattle.desk_responses.specs.Responses.{response_value, RespondsAs, Exi
 use armstrong_rel::{ExhibitRefusal, exhibit};
 use attr_sets::AttrSet;
 use byte_texts::add;
-use dep_model::{Failure, OutOfMemory, Row, Schema};
+use dep_model::{Failure, OutOfMemory, Row};
 use desk_responses::{EarlyExit, Response, Status, multivalued_exit, too_wide_exit};
+use schema_model::Schema;
 use std::alloc::Global;
 use typed_rows::print_made_up;
 
@@ -20,7 +21,7 @@ use typed_rows::print_made_up;
 pub fn exhibit_relation(alloc: Global, schema: &Schema) -> Result<Response, EarlyExit>
     ensures response { RespondsAs (Exhibits schema.now) result }
 {
-    match exhibit(alloc, schema) {
+    match exhibit(alloc, &schema.theory()) {
         Ok(rows) => Ok(response_of(alloc, schema, &rows)?),
         Err(Failure::Refused(refusal)) => match refusal {
             ExhibitRefusal::NotFunctional { dep } => Err(multivalued_exit(alloc, schema, dep)),

@@ -8,8 +8,8 @@ use Rattle.attr_sets.specs.declared.set.AttrSet.{AttrSet}
 use Rattle.dep_basis.specs.Bases.{IsBasis}
 use Rattle.dep_basis.specs.Traces.{blocks_of}
 use Rattle.dep_basis.specs.declared.gathering.Blocks.{Blocks}
-use Rattle.dep_model.specs.Schemas.{width_of, theory_of}
-use Rattle.dep_model.specs.declared.schema.Schema.{Schema}
+use Rattle.schema_model.specs.Schemas.{width_of, theory_of}
+use Rattle.schema_model.specs.Schemas.{Schema}
 use Rattle.schema_printer.specs.Spelling.{printed_names_of}
 use Rattle.desk_responses.specs.declared.status.Status.TheVariants.{Yes}
 use Rattle.desk_responses.specs.ResponseValues.{Allowed, Says}

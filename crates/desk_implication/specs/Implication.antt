@@ -2,8 +2,8 @@
 use Rattle.std.specs.Prelude.{◌⊎◌, ℕ, List, ◌++◌}
 use Rattle.attr_sets.specs.Attributes.{Attributes}
 use Rattle.dep_model.specs.Dependencies.{Dependency}
-use Rattle.dep_model.specs.Schemas.{names_of, width_of, theory_of, ImpliedBy}
-use Rattle.dep_model.specs.declared.schema.Schema.{Schema}
+use Rattle.schema_model.specs.Schemas.{names_of, width_of, theory_of, ImpliedBy, LegalFor, theory_in}
+use Rattle.schema_model.specs.Schemas.{Schema}
 use Rattle.derivation.specs.declared.deriv.Deriv.{Deriv}
 use Rattle.derivation.specs.Derivs.{tree_of}
 use Rattle.dep_basis.specs.Decisions.{IsBrokenBy}
@@ -16,20 +16,22 @@ use Rattle.desk_responses.specs.ResponseValues.{Allowed, Says}
 use Rattle.desk_arguments.specs.Goals.{WithGoal}
 use Rattle.desk_texts.specs.Texts.{yes_text, no_text}
 use Rattle.typed_rows.specs.Shown.{shown_tuples}
+use Rattle.counterexample_laws.specs.Counterexamples.{IsCounterexample}
 
 -- yes exactly where every relation that obeys the schema's dependencies obeys the goal, with a derivation
 -- of the goal, which is the functional chain where the functional part alone implies it, and else a direct
--- one, no longer than the listed ones; else no, with two tuples, as they are shown, that obey the
--- dependencies and break the goal
+-- one, no longer than the listed ones; else no, with two tuples that are, as they are shown, a legal
+-- counterexample to the goal
 abbrev pub Decided : Schema → Dependency → Allowed
 Decided schema goal response =
     (ImpliedBy schema goal
-    × ((proof : Deriv) × IsProofOf schema goal (tree_of proof)
-    × IsChainIfFunctional schema goal (tree_of proof)
-    × (IsDirectUnlessChain schema goal (tree_of proof) × IsShort schema goal (tree_of proof))
+    × ((proof : Deriv) × IsProofOf (theory_in schema) goal (tree_of proof)
+    × IsChainIfFunctional (theory_in schema) goal (tree_of proof)
+    × (IsDirectUnlessChain (theory_in schema) goal (tree_of proof) × IsShort (theory_in schema) goal (tree_of proof))
     × Says Yes (yes_text ++ canonical_certificate schema (tree_of proof)) response))
     ⊎ ((ImpliedBy schema goal → ⊥)
     × ((agreement : Attributes) × IsBrokenBy (width_of schema) (theory_of schema) goal agreement
+    × IsCounterexample schema (LegalFor schema) goal (shown_tuples schema agreement)
     × Says No (no_text (names_of schema) (shown_tuples schema agreement)) response))
 
 -- the same of a goal that is given as a text

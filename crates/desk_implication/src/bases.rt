@@ -1,7 +1,7 @@
 ghost use Rattle.std.specs.Prelude.{◌≡◌, ◌++◌, All, IfOk, OnOk};
 ghost use Rattle.attr_sets.specs.Attributes.{IsSubset};
 ghost use Rattle.attr_sets.specs.Sets.{attributes};
-ghost use Rattle.dep_model.specs.Schemas.{universe_of};
+ghost use Rattle.schema_model.specs.Schemas.{universe_of};
 ghost use Rattle.schema_printer.specs.Spelling.{printed_names_of};
 ghost use Rattle.desk_implication.specs.Bases.{GivesBasis, TellsBasis, basis_text, blocks_text};
 ghost use Rattle.desk_responses.specs.Responses.{response_value, RespondsAs};
@@ -9,9 +9,10 @@ ghost use Rattle.desk_responses.specs.Responses.{response_value, RespondsAs};
 use arguments::Argument;
 use attr_sets::AttrSet;
 use dep_basis::basis;
-use dep_model::{OutOfMemory, Schema};
+use dep_model::OutOfMemory;
 use desk_arguments::set_of;
 use desk_responses::{EarlyExit, Response, Status, put_set_line};
+use schema_model::Schema;
 use std::alloc::Global;
 
 /// What a set determines, and the blocks of the other attributes.
@@ -31,7 +32,7 @@ fn tell_basis(alloc: Global, schema: &Schema, lhs: AttrSet) -> Result<Response, 
     ensures response { IfOk result (λ response. TellsBasis schema.now (attributes lhs)
         (response_value response)) }
 {
-    let found = basis(schema, lhs);
+    let found = basis(&schema.theory(), lhs);
     let blocks = &found.blocks[..found.count as usize];
     Ok(Response::with_text(
         Status::Yes,

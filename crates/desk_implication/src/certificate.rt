@@ -1,6 +1,6 @@
 ghost use Rattle.std.specs.Prelude.{◌≡◌, IfOk};
 ghost use Rattle.dep_model.specs.Deps.{dependency_of, IsDepWithin};
-ghost use Rattle.dep_model.specs.Schemas.{universe_of};
+ghost use Rattle.schema_model.specs.Schemas.{universe_of, theory_in};
 ghost use Rattle.derivation.specs.Conclusions.{Proves};
 ghost use Rattle.derivation.specs.Trees.{Tree};
 ghost use Rattle.desk_implication.specs.Certificates.{Checked, ChecksProof};
@@ -8,10 +8,11 @@ ghost use Rattle.desk_responses.specs.Responses.{response_value, RespondsAs};
 
 use crate::{checked_line, concludes_lines};
 use arguments::Argument;
-use dep_model::{Dep, OutOfMemory, Schema};
+use dep_model::{Dep, OutOfMemory};
 use desk_arguments::goal_of;
 use desk_responses::{EarlyExit, Response, Status};
 use proof_text::same_dependency;
+use schema_model::Schema;
 use std::alloc::Global;
 
 /// Whether a certificate that concludes this dependency, by the rules alone, proves a goal over a schema.
@@ -22,7 +23,7 @@ pub fn check_proof(
     goal: &Argument,
 ) -> Result<Response, EarlyExit>
     requires within { IsDepWithin (universe_of schema.now) concluded }
-    ensures response { (tree : Tree) → Proves schema.now tree (dependency_of concluded)
+    ensures response { (tree : Tree) → Proves (theory_in schema.now) tree (dependency_of concluded)
         → RespondsAs (ChecksProof schema.now tree goal.now) result }
 {
     let dep = match goal_of(alloc, schema, goal) {
@@ -41,7 +42,7 @@ fn proof_response(
 ) -> Result<Response, OutOfMemory>
     requires concluded { IsDepWithin (universe_of schema.now) concluded }
     requires dep { IsDepWithin (universe_of schema.now) dep }
-    ensures response { (tree : Tree) → Proves schema.now tree (dependency_of concluded)
+    ensures response { (tree : Tree) → Proves (theory_in schema.now) tree (dependency_of concluded)
         → IfOk result (λ response. Checked schema.now tree (dependency_of dep)
         (response_value response)) }
 {

@@ -1,16 +1,17 @@
 ghost use Rattle.std.specs.Prelude.{◌≡◌, ℕ, List, IfOk};
 ghost use Rattle.dep_model.specs.Deps.{dependency_of, IsDepWithin};
-ghost use Rattle.dep_model.specs.Schemas.{universe_of};
+ghost use Rattle.schema_model.specs.Schemas.{universe_of};
 ghost use Rattle.derivation_grammar.specs.Derivations.{Derives};
 ghost use Rattle.desk_implication.specs.Derivations.{DerivationChecked, ChecksDerivation};
 ghost use Rattle.desk_responses.specs.Responses.{response_value, RespondsAs};
 
 use crate::{checked_line, concludes_lines};
 use arguments::Argument;
-use dep_model::{Dep, OutOfMemory, Schema};
+use dep_model::{Dep, OutOfMemory};
 use desk_arguments::goal_of;
 use desk_responses::{EarlyExit, Response, Status};
 use proof_text::same_dependency;
+use schema_model::Schema;
 use std::alloc::Global;
 
 /// Whether a derivation of this dependency derives a goal over a schema.

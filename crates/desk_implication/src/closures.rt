@@ -2,7 +2,7 @@ ghost use Rattle.std.specs.Prelude.{◌≡◌, ◌++◌, All, IfOk, OnOk};
 ghost use Rattle.attr_sets.specs.Attributes.{IsSubset};
 ghost use Rattle.attr_sets.specs.Sets.{attributes};
 ghost use Rattle.closure_steps.specs.Steps.{closure_step_value, closure_step_values};
-ghost use Rattle.dep_model.specs.Schemas.{universe_of};
+ghost use Rattle.schema_model.specs.Schemas.{universe_of};
 ghost use Rattle.schema_printer.specs.Spelling.{printed_names_of};
 ghost use Rattle.desk_implication.specs.Closures.{GivesClosure, TellsClosure, ComesAbout, IsBesideText, closure_text, step_text, steps_text};
 ghost use Rattle.desk_responses.specs.Responses.{response_value, RespondsAs};
@@ -12,9 +12,10 @@ use attr_sets::AttrSet;
 use byte_texts::add;
 use closure_steps::{ClosureStep, closure_steps};
 use dep_basis::closure;
-use dep_model::{OutOfMemory, Schema};
+use dep_model::OutOfMemory;
 use desk_arguments::set_of;
 use desk_responses::{EarlyExit, Response, Status, put_dep, put_line, put_set_line};
+use schema_model::Schema;
 use schema_printer::add_set;
 use std::alloc::Global;
 
@@ -44,8 +45,9 @@ fn closure_lines(alloc: Global, schema: &Schema, start: AttrSet) -> Result<Vec<u
     requires within { IsSubset (attributes start) (universe_of schema.now) }
     ensures text { IfOk result (λ text. ComesAbout schema.now (attributes start) text.items) }
 {
-    let found = closure_steps(alloc, schema, start)?;
-    let closed = closure(schema, start);
+    let theory = schema.theory();
+    let found = closure_steps(alloc, &theory, start)?;
+    let closed = closure(&theory, start);
     let beside = beside_line(alloc, schema, closed.difference(found.reached))?;
     let text = print_closure(alloc, schema, start, &found.steps, &beside, closed)?;
     Ok(text)

@@ -2,7 +2,7 @@ ghost use Rattle.std.specs.Prelude.{◌≤◌, ◌++◌, IfOk};
 ghost use Rattle.attr_sets.specs.Attributes.{IsSubset};
 ghost use Rattle.attr_sets.specs.Sets.{attributes};
 ghost use Rattle.dep_model.specs.Deps.{dependency_of, IsDepWithin};
-ghost use Rattle.dep_model.specs.Schemas.{names_of, universe_of};
+ghost use Rattle.schema_model.specs.Schemas.{names_of, universe_of};
 ghost use Rattle.derivation.specs.Trees.{nodes, depth};
 ghost use Rattle.derivation.specs.Derivs.{tree_of};
 ghost use Rattle.proof_grammar.specs.Printing.{canonical_certificate, IsProof};
@@ -16,12 +16,13 @@ use arguments::Argument;
 use attr_sets::AttrSet;
 use basis_proofs::Proof;
 use byte_texts::add;
-use dep_model::{Dep, OutOfMemory, Schema};
+use dep_model::{Dep, OutOfMemory};
 use derivation::{Deriv, MOST_LEVELS, MOST_NODES};
 use desk_arguments::goal_of;
 use desk_responses::{EarlyExit, Response, Status};
 use desk_texts::line_of;
 use proof_text::print_proof;
+use schema_model::Schema;
 use short_proofs::prove_shortly;
 use std::alloc::Global;
 use typed_rows::print_two_rows;
@@ -44,7 +45,7 @@ fn decision_response(alloc: Global, schema: &Schema, dep: Dep) -> Result<Respons
     ensures response { IfOk result (λ response. Decided schema.now (dependency_of dep)
         (response_value response)) }
 {
-    match prove_shortly(alloc, schema, dep)? {
+    match prove_shortly(alloc, &schema.theory(), dep)? {
         Proof::Yes(deriv) => certificate_response(alloc, schema, &deriv),
         Proof::No { agreement } => counterexample_response(alloc, schema, agreement),
     }

@@ -2,7 +2,7 @@ ghost use Rattle.std.specs.Prelude.{◌≡◌, All, IfOk};
 ghost use Rattle.attr_sets.specs.Attributes.{IsSubset, IsEmpty};
 ghost use Rattle.attr_sets.specs.Sets.{attributes};
 ghost use Rattle.dep_model.specs.Deps.{dependencies_of, IsDepWithin};
-ghost use Rattle.dep_model.specs.Schemas.{width_of, universe_of, theory_of};
+ghost use Rattle.schema_model.specs.Schemas.{width_of, universe_of, theory_of};
 ghost use Rattle.desk_implication.specs.Projections.{Projects, ProjectsSet, RefusesProjection, empty_set_text, too_many_dependencies_text, projection_text};
 ghost use Rattle.fd_projection.specs.Refusals.{IsRefusedProjection};
 ghost use Rattle.desk_responses.specs.ResponseValues.{Says};
@@ -11,11 +11,12 @@ ghost use Rattle.desk_responses.specs.Responses.{response_value, RespondsAs, Exi
 use arguments::Argument;
 use attr_sets::AttrSet;
 use byte_texts::add;
-use dep_model::{Dep, Failure, OutOfMemory, Schema};
+use dep_model::{Dep, Failure, OutOfMemory};
 use desk_arguments::set_of;
 use desk_responses::{EarlyExit, Response, Status, too_wide_exit};
 use desk_texts::{line_of, overlong_comment};
 use fd_projection::{ProjectionRefusal, project};
+use schema_model::Schema;
 use schema_printer::print_part;
 use std::alloc::Global;
 
@@ -42,7 +43,7 @@ fn project_set(alloc: Global, schema: &Schema, set: AttrSet) -> Result<Response,
     if set.is_empty() {
         return Err(empty_set_exit(alloc));
     }
-    match project(alloc, schema, set) {
+    match project(alloc, &schema.theory(), set) {
         Ok(rules) => Ok(projection_response(alloc, schema, set, &rules)?),
         Err(Failure::Refused(refusal)) => Err(refused_exit(alloc, schema, set, refusal)),
         Err(Failure::OutOfMemory) => Err(EarlyExit::OutOfMemory),

@@ -9,14 +9,13 @@ use Rattle.attr_sets.proofs.AttributesLemmas.{same_truth}
 use Rattle.column_types.proofs.FirstLemmas.{type_once}
 use Rattle.column_types.specs.FirstTypes.{AreTypesOf, HasEmpty, HaveEmpty, IsTypeOf, value_in}
 use Rattle.column_values.specs.Values.{FitsColumn, FitsColumns}
-use Rattle.dep_model.specs.Schemas.{names_of, naming_of, nullable_of, types_of}
+use Rattle.schema_model.specs.Schemas.{names_of, naming_of, nullable_of, types_of}
 use Rattle.dep_model.specs.Tuples.{Relation, Tuple, value_at}
-use Rattle.dep_model.specs.declared.column_type.ColumnType.{ColumnType}
-use Rattle.dep_model.specs.declared.column_type.ColumnType.TheVariants.{Text}
-use Rattle.dep_model.specs.declared.naming.Naming.{Naming}
-use Rattle.dep_model.specs.declared.schema.Schema.{Schema}
-use Rattle.headed_rows.specs.Headings.{names_under, rows_under}
-use Rattle.headed_rows.specs.declared.headed_rows.Headed.{Headed}
+use Rattle.schema_model.specs.declared.column_type.ColumnType.{ColumnType}
+use Rattle.schema_model.specs.declared.column_type.ColumnType.TheVariants.{Text}
+use Rattle.schema_model.specs.declared.naming.Naming.{Naming}
+use Rattle.schema_model.specs.Schemas.{Schema}
+use Rattle.headed_rows.specs.Headings.{HeadedRows}
 use Rattle.schema_printer.specs.Printing.{lines_text, schema_lines, schema_text}
 use Rattle.schema_printer.specs.Spelling.{printed_names_of, spelling}
 use Rattle.desk_imports.specs.Columns.{ImportsColumns, IsSchemaOf}
@@ -33,10 +32,10 @@ value_fits rows k i column nullable (inr (some, first)) told low = elim (first.a
   | inr value ↦ inr value
 ]
 
-pub values_fit : (headed : Headed) (s : Schema) → IsSchemaOf headed s → FitsColumns s (rows_under headed)
+pub values_fit : (headed : HeadedRows) (s : Schema) → IsSchemaOf headed s → FitsColumns s headed.rows
 values_fit headed s is i d low k column here =
-    let rows = rows_under headed in
-    let within : k < length (names_under headed) =
+    let rows = headed.rows in
+    let within : k < length headed.names =
     omega (arith, slice_get_within (types_of s) k column here, s.typed.one_each, ap length is.names) in
     subst (λ (t : Tuple). FitsColumn column (nullable_of s k) (value_at t k)) (get_or_default rows i [] d low)
     (value_fits rows k i column (nullable_of s k) (is.types k column here) (is.nullable.each k within).1 low)
@@ -66,13 +65,13 @@ text_parts : (s : Schema) → schema_text s [] ≡ text_of (naming_of s) (types_
 unfolding schema_text printed_names_of text_of
 text_parts s = refl
 
-pub text_once : (headed : Headed) (s t : Schema) → IsSchemaOf headed s → IsSchemaOf headed t → schema_text s [] ≡ schema_text t []
+pub text_once : (headed : HeadedRows) (s t : Schema) → IsSchemaOf headed s → IsSchemaOf headed t → schema_text s [] ≡ schema_text t []
 text_once headed s t p q =
-    let rows = rows_under headed in
+    let rows = headed.rows in
     let names : names_of s ≡ names_of t = p.names ∙ sym q.names in
     let count : length (types_of s) ≡ length (types_of t) = omega (arith, s.typed.one_each, t.typed.one_each, ap length names) in
     let types = types_once rows (types_of s) (types_of t) count p.types q.types in
-    let each = empty_once (length (names_under headed)) rows (nullable_of s) (nullable_of t) p.nullable q.nullable in
+    let each = empty_once (length headed.names) rows (nullable_of s) (nullable_of t) p.nullable q.nullable in
     let nullable : nullable_of s ≡ nullable_of t = (λ i k. each k i) in
     text_parts s
     ∙ ap (λ (naming : Naming). text_of naming (types_of s) (names_of s) (nullable_of s)) (p.naming ∙ sym q.naming)
@@ -81,19 +80,6 @@ text_once headed s t p q =
     ∙ ap (λ (x : Attributes). text_of (naming_of t) (types_of t) (names_of t) x) nullable
     ∙ sym (text_parts t)
 
--- what is a schema of one value is one of each that has its names and rows
-moved : (headed other : Headed) (s : Schema) → names_under headed ≡ names_under other → rows_under headed ≡ rows_under other
-    → IsSchemaOf headed s → IsSchemaOf other s
-moved headed other s names rows is = record {
-  naming = is.naming;
-  names = is.names ∙ names;
-  types = subst (λ (r : Relation). AreTypesOf r (types_of s)) rows is.types;
-  nullable = subst (λ (n : ℕ). HaveEmpty n (rows_under other) (nullable_of s)) (ap length names)
-      (subst (λ (r : Relation). HaveEmpty (length (names_under headed)) r (nullable_of s)) rows is.nullable);
-  deps = is.deps;
-}
-
-pub import_once : (headed other : Headed) (one also : ResponseValue) → names_under headed ≡ names_under other
-    → rows_under headed ≡ rows_under other → ImportsColumns headed one → ImportsColumns other also → one ≡ also
-import_once headed other one also names rows (s, p, says) (t, q, said) =
-    says ∙ ap (text_only Yes) (text_once other s t (moved headed other s names rows p) q) ∙ sym said
+pub import_once : (headed : HeadedRows) (one other : ResponseValue) → ImportsColumns headed one → ImportsColumns headed other
+    → one ≡ other
+import_once headed one other (s, p, says) (t, q, said) = says ∙ ap (text_only Yes) (text_once headed s t p q) ∙ sym said

@@ -4,12 +4,11 @@
 ghost use Rattle.std.specs.Prelude.{◌≡◌, [], ℕ, List};
 ghost use Rattle.attr_sets.specs.declared.set.TheConstants.{MOST_ATTRIBUTES};
 ghost use Rattle.column_values.specs.Values.{FitsColumns};
-ghost use Rattle.dep_model.specs.Schemas.{types_of, nullable_of};
-ghost use Rattle.dep_model.specs.declared.naming.Naming.TheVariants.{Any};
-ghost use Rattle.dep_model.specs.declared.schema.Schema.{Schema};
+ghost use Rattle.schema_model.specs.Schemas.{types_of, nullable_of};
+ghost use Rattle.schema_model.specs.declared.naming.Naming.TheVariants.{Any};
+ghost use Rattle.schema_model.specs.Schemas.{Schema};
 ghost use Rattle.headed_rows.specs.Headers.{IsHeaderWithin};
-ghost use Rattle.headed_rows.specs.Headings.{names_under, rows_under};
-ghost use Rattle.headed_rows.specs.declared.headed_rows.Headed.{Headed};
+ghost use Rattle.headed_rows.specs.Headings.{HeadedRows};
 ghost use Rattle.schema_grammar.specs.Schemas.{MeansSchema};
 ghost use Rattle.schema_printer.specs.Printing.{schema_text};
 ghost use Rattle.desk_imports.specs.Columns.{ImportsColumns, IsSchemaOf};
@@ -17,16 +16,16 @@ ghost use Rattle.desk_responses.specs.ResponseValues.{ResponseValue};
 
 /// Each value of the file fits its column of the schema.
 pub fn values_fit_the_schema()
-    ensures law { (headed : Headed) (s : Schema) → IsSchemaOf headed s → FitsColumns s (rows_under headed) }
+    ensures law { (headed : HeadedRows) (s : Schema) → IsSchemaOf headed s → FitsColumns s headed.rows }
 {}
 
 /// The text that is printed means this schema, without dependencies.
 pub fn text_means_the_schema()
-    ensures law { (headed : Headed) (s : Schema) → IsHeaderWithin MOST_ATTRIBUTES (names_under headed)
+    ensures law { (headed : HeadedRows) (s : Schema) → IsHeaderWithin MOST_ATTRIBUTES headed.names
         → IsSchemaOf headed s
         → (lines : List ℕ) × MeansSchema (schema_text s [])
         (record {
-          names = names_under headed;
+          names = headed.names;
           columns = types_of s;
           deps = [];
           lines = lines;
@@ -35,9 +34,8 @@ pub fn text_means_the_schema()
         }) }
 {}
 
-/// There is one answer, also for another value with the same names and rows.
+/// There is one answer.
 pub fn one_import()
-    ensures law { (headed other : Headed) (one also : ResponseValue)
-        → names_under headed ≡ names_under other → rows_under headed ≡ rows_under other
-        → ImportsColumns headed one → ImportsColumns other also → one ≡ also }
+    ensures law { (headed : HeadedRows) (one other : ResponseValue) → ImportsColumns headed one
+        → ImportsColumns headed other → one ≡ other }
 {}

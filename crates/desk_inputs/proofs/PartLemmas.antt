@@ -5,7 +5,7 @@ use Rattle.std.proofs.lemmas.List.Elements.{All-push}
 use Rattle.std.specs.List.{AllZip}
 use Rattle.std.specs.Prelude.{All}
 use Rattle.csv_rows.specs.declared.part.PartialRows.{PartialRows}
-use Rattle.dep_model.specs.declared.schema.Schema.{Schema}
+use Rattle.schema_model.specs.Schemas.{Schema}
 use Rattle.table_join.specs.Tables.{PartialRelation, IsTable, table_of_part, tables_of}
 use Rattle.desk_outside.specs.Begun.{Begun, Begins}
 use Rattle.desk_inputs.specs.FilesBegun.{BeginsAll, BeginsFront}

@@ -2,11 +2,10 @@
 use Rattle.std.specs.Prelude.{ℕ, List, ◌++◌, codes}
 use Rattle.std.specs.Fmt.{decimal}
 use Rattle.attr_sets.specs.declared.set.TheConstants.{MOST_ATTRIBUTES}
-use Rattle.headed_rows.specs.declared.headed_rows.Headed.{Headed}
+use Rattle.headed_rows.specs.Headings.{HeadedRows, IsHeadedWithin, IsRefusedWithin, discovered}
 use Rattle.headed_rows.specs.declared.headed_rows.Limits.{Limits}
 use Rattle.row_store.specs.declared.limits.TheConstants.{MOST_HEADED_ROWS, MOST_ROWS_WITH_ALL, WIDEST_WITH_ALL}
 use Rattle.headed_rows.specs.declared.refusal.HeaderRefusal.{HeaderRefusal}
-use Rattle.headed_rows.specs.Headings.{IsHeadedWithin, IsRefusedWithin, discovered}
 use Rattle.headed_rows.specs.RefusalTexts.{headed_reason_text, headed_refusal_number}
 use Rattle.desk_inputs.specs.declared.headed.Purpose.{Purpose}
 use Rattle.desk_inputs.specs.declared.headed.Purpose.TheVariants as purpose
@@ -21,7 +20,7 @@ headed_refusal_text command file why =
     ++ codes ": " ++ headed_reason_text why)
 
 -- rows under names of their own, within these limits, for a command of this word
-abbrev pub headed_file_for : List ℕ → Limits → FileKind Headed HeaderRefusal
+abbrev pub headed_file_for : List ℕ → Limits → FileKind HeadedRows HeaderRefusal
 headed_file_for command limits = record {
   limit = MOST_CSV_BYTES;
   means = λ bytes headed. IsHeadedWithin limits bytes headed;
@@ -49,16 +48,16 @@ command_for purpose.Rules = codes "discover"
 command_for purpose.AllRules = codes "discover"
 command_for purpose.Schema = codes "import"
 
-abbrev pub file_for : Purpose → FileKind Headed HeaderRefusal
+abbrev pub file_for : Purpose → FileKind HeadedRows HeaderRefusal
 file_for wanted = headed_file_for (command_for wanted) (limits_for wanted)
 
 -- rows whose functional dependencies are looked for, rows of which all that they obey is, and rows whose columns are
 -- made a schema
-abbrev pub headed_file : FileKind Headed HeaderRefusal
+abbrev pub headed_file : FileKind HeadedRows HeaderRefusal
 headed_file = file_for purpose.Rules
 
-abbrev pub whole_file : FileKind Headed HeaderRefusal
+abbrev pub whole_file : FileKind HeadedRows HeaderRefusal
 whole_file = file_for purpose.AllRules
 
-abbrev pub imported_file : FileKind Headed HeaderRefusal
+abbrev pub imported_file : FileKind HeadedRows HeaderRefusal
 imported_file = file_for purpose.Schema

@@ -1,6 +1,6 @@
 -- The kinds of files that are texts of their own grammars: schemas, certificates and derivations.
 use Rattle.std.specs.Prelude.{codes}
-use Rattle.dep_model.specs.declared.schema.Schema.{Schema}
+use Rattle.schema_model.specs.Schemas.{Schema}
 use Rattle.schema_printer.specs.Spelling.{printed_names_of}
 use Rattle.dep_model.specs.Dependencies.{Dependency}
 use Rattle.derivation.specs.Trees.{Tree}

@@ -4,7 +4,7 @@ use Rattle.std.specs.List.{AllZip}
 use Rattle.csv_rows.specs.declared.part.PartialRows.{PartialRows}
 use Rattle.csv_rows.specs.declared.refusal.RowRefusal.{RowRefusal}
 use Rattle.csv_rows.specs.Reading.{PartOf, HasScheme}
-use Rattle.dep_model.specs.declared.schema.Schema.{Schema}
+use Rattle.schema_model.specs.Schemas.{Schema}
 use Rattle.desk_inputs.specs.declared.rows.TheConstants.{MOST_CSV_BYTES}
 use Rattle.desk_responses.specs.ResponseValues.{Allowed, With}
 use Rattle.desk_inputs.specs.FileKinds.{FileKind, FileStops, IsFile}

@@ -1,6 +1,6 @@
 ghost use Rattle.std.specs.Prelude.{◌≡◌, ◌≤◌, ◌∷◌, [], OnOk, IfOk, IfErr};
 ghost use Rattle.dep_model.specs.Deps.{dependency_of, IsDepWithin};
-ghost use Rattle.dep_model.specs.Schemas.{universe_of, ImpliedBy};
+ghost use Rattle.schema_model.specs.Schemas.{universe_of, ImpliedBy};
 ghost use Rattle.schema_printer.specs.Spelling.{printed_names_of};
 ghost use Rattle.proof_grammar.specs.Diagnostics.{line_diagnostic_of, IsRefusalWithin};
 ghost use Rattle.desk_responses.specs.ResponseValues.{Says};
@@ -14,12 +14,13 @@ ghost use Rattle.desk_responses.specs.Responses.{ExitsAs};
 
 use crate::read::open_file;
 use arguments::Argument;
-use dep_model::{Dep, Failure, Schema};
+use dep_model::{Dep, Failure};
 use derivation_text::read_derivation;
 use desk_outside::FileSource;
 use desk_refusals::derivation_refusal_line;
 use desk_responses::{EarlyExit, Status};
 use proof_text::{MOST_PROOF_BYTES, ProofRefusal};
+use schema_model::Schema;
 use std::alloc::Global;
 
 /// What the derivation of a file derives from a schema.

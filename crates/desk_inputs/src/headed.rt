@@ -1,7 +1,7 @@
 ghost use Rattle.std.specs.Prelude.{◌≡◌, ◌≤◌, ◌<◌, ◌∷◌, [], length, OnOk, IfOk, IfErr};
 ghost use Rattle.dep_model.specs.Tuples.{IsOver};
 ghost use Rattle.headed_rows.specs.Headers.{IsHeaderWithin};
-ghost use Rattle.headed_rows.specs.Headings.{names_under, rows_under};
+ghost use Rattle.headed_rows.specs.Headings.{headed_of};
 ghost use Rattle.row_store.specs.declared.limits.TheConstants.{MOST_HEADED_ROWS};
 ghost use Rattle.desk_outside.specs.Begun.{Begins};
 ghost use Rattle.desk_inputs.specs.FilesBegun.{BeginsFront};
@@ -47,12 +47,12 @@ pub fn open_headed<F: FileSource>(
     ensures begins { OnOk result (Begins name.now (F.begun source.old) (F.begun source.new)) }
     ensures reads { BeginsFront (name.now ∷ []) (F.begun source.old) (F.begun source.new) }
     ensures ok { (r : Reading) → files_in r ≡ F.files source.old
-        → IfOk result (IsFile (file_for purpose) r name.now) }
-    ensures header { IfOk result (λ headed. IsHeaderWithin (limits_for purpose).columns (names_under headed)) }
-    ensures any_name { IfOk result (λ headed. 0 < length (names_under headed)) }
-    ensures same_width { IfOk result (λ headed. IsOver (length (names_under headed))
-        (rows_under headed)) }
-    ensures within_limit { IfOk result (λ headed. length (rows_under headed) ≤ (limits_for purpose).rows) }
+        → IfOk result (λ headed. IsFile (file_for purpose) r name.now (headed_of headed)) }
+    ensures header { IfOk result (λ headed. IsHeaderWithin (limits_for purpose).columns headed.names.items) }
+    ensures any_name { IfOk result (λ headed. 0 < length headed.names.items) }
+    ensures same_width { IfOk result (λ headed. IsOver (length headed.names.items)
+        headed.rows) }
+    ensures within_limit { IfOk result (λ headed. length headed.rows ≤ (limits_for purpose).rows) }
     ensures exit { (r : Reading) → Shows F.files F.faults F.taken F.begun source.old source.new r
         → IfErr result (ExitsAs (FileStops (file_for purpose) r name.now)) }
 {
@@ -111,12 +111,12 @@ fn open_headed_for<F: FileSource>(
     ensures begins { OnOk result (Begins name.now (F.begun source.old) (F.begun source.new)) }
     ensures reads { BeginsFront (name.now ∷ []) (F.begun source.old) (F.begun source.new) }
     ensures ok { (r : Reading) → files_in r ≡ F.files source.old
-        → IfOk result (IsFile (headed_file_for command.now limits) r name.now) }
-    ensures header { IfOk result (λ headed. IsHeaderWithin limits.columns (names_under headed)) }
-    ensures any_name { IfOk result (λ headed. 0 < length (names_under headed)) }
-    ensures same_width { IfOk result (λ headed. IsOver (length (names_under headed))
-        (rows_under headed)) }
-    ensures within_limit { IfOk result (λ headed. length (rows_under headed) ≤ limits.rows) }
+        → IfOk result (λ headed. IsFile (headed_file_for command.now limits) r name.now (headed_of headed)) }
+    ensures header { IfOk result (λ headed. IsHeaderWithin limits.columns headed.names.items) }
+    ensures any_name { IfOk result (λ headed. 0 < length headed.names.items) }
+    ensures same_width { IfOk result (λ headed. IsOver (length headed.names.items)
+        headed.rows) }
+    ensures within_limit { IfOk result (λ headed. length headed.rows ≤ limits.rows) }
     ensures exit { (r : Reading) → Shows F.files F.faults F.taken F.begun source.old source.new r
         → IfErr result (ExitsAs (FileStops (headed_file_for command.now limits) r name.now)) }
 {

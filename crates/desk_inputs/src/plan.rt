@@ -1,7 +1,7 @@
 ghost use Rattle.std.specs.Prelude.{◌≡◌, ◌≤◌, ◌++◌, ◌∷◌, [], length, OnOk, IfOk, IfErr};
 ghost use Rattle.std.specs.Fmt.{decimal};
 ghost use Rattle.dep_model.specs.Projections.{Covers};
-ghost use Rattle.dep_model.specs.Schemas.{width_of, theory_of};
+ghost use Rattle.schema_model.specs.Schemas.{width_of, theory_of, theory_in};
 ghost use Rattle.design_order.specs.Order.{AreNamesInOrder};
 ghost use Rattle.schema_printer.specs.Spelling.{printed_names_of};
 ghost use Rattle.plan_printer.specs.NamedPlans.{named_schemes};
@@ -20,13 +20,14 @@ ghost use Rattle.desk_responses.specs.Responses.{ExitsAs};
 use crate::read::open_file;
 use arguments::Argument;
 use byte_texts::{add, add_number};
-use dep_model::{Failure, OutOfMemory, Schema};
+use dep_model::{Failure, OutOfMemory};
 use design_order::names_in_design_order;
 use desk_outside::FileSource;
 use desk_responses::{EarlyExit, Status, put_name};
 use desk_texts::add_displayed;
 use plan_printer::NamedPlan;
 use plan_reader::{MOST_PLAN_BYTES, PlanRefusal, read_plan};
+use schema_model::Schema;
 use schema_reader::SchemaRefusal;
 use std::alloc::Global;
 
@@ -43,7 +44,7 @@ pub fn open_plan<F: FileSource>(
     ensures reads { BeginsFront (name.now ∷ []) (F.begun source.old) (F.begun source.new) }
     ensures ok { (r : Reading) → files_in r ≡ F.files source.old
         → IfOk result (λ plan. IsFile (plan_file schema.now) r name.now (named_schemes plan)) }
-    ensures universe { IfOk result (λ plan. IsPlanOver schema.now plan.plan) }
+    ensures universe { IfOk result (λ plan. IsPlanOver (theory_in schema.now) plan.plan) }
     ensures within_limit { IfOk result (λ plan. length (plan_of plan.plan) ≤ MOST_SCHEMES) }
     ensures covers { IfOk result (λ plan. Covers (width_of schema.now) (plan_of plan.plan)) }
     ensures exit { (r : Reading) → Shows F.files F.faults F.taken F.begun source.old source.new r
@@ -67,13 +68,13 @@ pub fn open_plan<F: FileSource>(
 
 // A plan with the names of its tables in the order in which a design has these.
 fn in_order(alloc: Global, schema: &Schema, read: NamedPlan) -> Result<NamedPlan, OutOfMemory>
-    requires universe { IsPlanOver schema.now read.plan }
+    requires universe { IsPlanOver (theory_in schema.now) read.plan }
     requires beside { length read.names.items ≡ length (scheme_sets read.plan) }
     ensures plan { IfOk result (λ plan. plan.plan ≡ read.plan) }
     ensures order { IfOk result (λ plan. AreNamesInOrder (width_of schema.now) (theory_of schema.now)
         (plan_of read.plan) read.names.items plan.names.items) }
 {
-    let names = names_in_design_order(alloc, schema, &read.plan, &read.names)?;
+    let names = names_in_design_order(alloc, &schema.theory(), &read.plan, &read.names)?;
     Ok(NamedPlan {
         plan: read.plan,
         names,

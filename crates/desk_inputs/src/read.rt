@@ -1,5 +1,5 @@
 ghost use Rattle.std.specs.Prelude.{◌≡◌, ◌^◌, ◌<◌, ◌≤◌, ◌∷◌, [], length, OnOk, IfOk, IfErr};
-ghost use Rattle.dep_model.specs.Schemas.{universe_of};
+ghost use Rattle.schema_model.specs.Schemas.{universe_of, theory_in};
 ghost use Rattle.dep_model.specs.Deps.{dependency_of, IsDepWithin};
 ghost use Rattle.schema_printer.specs.Spelling.{printed_names_of};
 ghost use Rattle.derivation.specs.Conclusions.{Proves};
@@ -16,12 +16,13 @@ ghost use Rattle.desk_inputs.specs.Readings.{Reading, files_in, Shows, IsContent
 ghost use Rattle.desk_responses.specs.Responses.{ExitsAs};
 
 use arguments::Argument;
-use dep_model::{Failure, OutOfMemory, Schema};
+use dep_model::{Failure, OutOfMemory};
 use desk_outside::{FileSource, LoadRefusal, load};
 use desk_refusals::{proof_refusal_line, refusal_exit};
 use desk_responses::{EarlyExit, Status};
 use desk_texts::line_of;
 use proof_text::{Concluded, MOST_PROOF_BYTES, ProofRefusal, read_concluded};
+use schema_model::Schema;
 use schema_reader::{MOST_TEXT_BYTES, read_schema};
 use std::alloc::Global;
 
@@ -122,7 +123,7 @@ pub fn open_proof<F: FileSource>(
     ensures ok { (r : Reading) → files_in r ≡ F.files source.old
         → IfOk result (λ read. IsFile (proof_file schema.now) r name.now (tree_of read.deriv.value)) }
     ensures concludes { IfOk result
-        (λ read. Proves schema.now (tree_of read.deriv.value) (dependency_of read.dep)) }
+        (λ read. Proves (theory_in schema.now) (tree_of read.deriv.value) (dependency_of read.dep)) }
     ensures within { IfOk result (λ read. IsDepWithin (universe_of schema.now) read.dep) }
     ensures exit { (r : Reading) → Shows F.files F.faults F.taken F.begun source.old source.new r
         → IfErr result (ExitsAs (FileStops (proof_file schema.now) r name.now)) }

@@ -8,8 +8,9 @@ ghost use Rattle.desk_inputs.specs.Rows.{row_refusal_text};
 
 use byte_texts::{add, add_number};
 use csv_rows::{RowRefusal, type_of};
-use dep_model::{OutOfMemory, Schema};
+use dep_model::OutOfMemory;
 use desk_responses::put_name;
+use schema_model::Schema;
 use schema_printer::add_type_word;
 use std::alloc::Global;
 

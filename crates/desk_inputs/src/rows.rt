@@ -1,7 +1,7 @@
 ghost use Rattle.std.specs.Prelude.{◌≡◌, ◌≤◌, ◌∷◌, [], length, OnOk, IfOk, IfErr};
 ghost use Rattle.csv_rows.specs.declared.reading.TheConstants.{MOST_ROWS};
 ghost use Rattle.column_values.specs.Values.{FitsColumns};
-ghost use Rattle.dep_model.specs.Schemas.{width_of};
+ghost use Rattle.schema_model.specs.Schemas.{width_of};
 ghost use Rattle.dep_model.specs.Tuples.{IsOver};
 ghost use Rattle.desk_responses.specs.ResponseValues.{Says};
 ghost use Rattle.desk_inputs.specs.Readings.{Reading, files_in, Shows};
@@ -15,10 +15,11 @@ use crate::read::open_file;
 use crate::row_refusals::row_refusal_line;
 use arguments::Argument;
 use csv_rows::{RowRefusal, read_rows};
-use dep_model::{Failure, Schema};
+use dep_model::Failure;
 use desk_outside::FileSource;
 use desk_responses::{EarlyExit, Status};
 use row_store::Rows;
+use schema_model::Schema;
 use std::alloc::Global;
 
 /// The most bytes of a CSV file.

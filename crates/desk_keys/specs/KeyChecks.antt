@@ -9,11 +9,12 @@ use Rattle.csv_text.specs.Rows.{rows_text}
 use Rattle.dep_basis.specs.Decisions.{IsBrokenBy}
 use Rattle.dep_model.specs.Dependencies.{fd}
 use Rattle.dep_model.specs.Keys.{InClosure, IsSuperkey, IsKey, IsGreedyKey}
-use Rattle.dep_model.specs.Schemas.{names_of, width_of, universe_of, theory_of}
+use Rattle.schema_model.specs.Schemas.{names_of, width_of, universe_of, theory_of, LegalFor}
 use Rattle.dep_model.specs.Tuples.{Relation}
-use Rattle.dep_model.specs.declared.schema.Schema.{Schema}
+use Rattle.schema_model.specs.Schemas.{Schema}
 use Rattle.schema_printer.specs.Printing.{set_text}
 use Rattle.typed_rows.specs.Shown.{shown_tuples}
+use Rattle.counterexample_laws.specs.Counterexamples.{IsCounterexample}
 use Rattle.schema_printer.specs.Spelling.{printed_names_of}
 use Rattle.desk_responses.specs.declared.status.Status.TheVariants.{Yes, No}
 use Rattle.desk_responses.specs.ResponseValues.{Allowed, Says}
@@ -56,13 +57,14 @@ pub record IsKeyShown (schema : Schema) (x : Attributes) (text : List ℕ) : Typ
   pub is_key : IsKey (width_of schema) (theory_of schema) (universe_of schema) x
   pub shown : IsKeyText schema x text
 
--- no: the set does not determine the universe, as two tuples show, with values of the columns' types
+-- no: the set does not determine the universe: two tuples are, as they are shown, a legal counterexample to that
 pub record IsNoSuperkey (schema : Schema) (x : Attributes) (text : List ℕ) : Type 0 where
   pub no_superkey : IsSuperkey (width_of schema) (theory_of schema) (universe_of schema) x → ⊥
   pub closed : Attributes
   pub is_closure : (a : ℕ) → (closed a ≡ true) ↔ InClosure (width_of schema) (theory_of schema) x a
   pub agreement : Attributes
   pub broken : IsBrokenBy (width_of schema) (theory_of schema) (fd x (universe_of schema)) agreement
+  pub shown : IsCounterexample schema (LegalFor schema) (fd x (universe_of schema)) (shown_tuples schema agreement)
   pub reads : text ≡ no_superkey_text schema x (difference (universe_of schema) closed)
       (shown_tuples schema agreement)
 

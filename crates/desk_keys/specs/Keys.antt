@@ -4,8 +4,8 @@ use Rattle.std.specs.List.{flat_map}
 use Rattle.attr_sets.specs.Attributes.{Attributes}
 use Rattle.attr_sets.specs.declared.set.AttrSet.{AttrSet}
 use Rattle.attr_sets.specs.Sets.{attributes}
-use Rattle.dep_model.specs.Schemas.{width_of, theory_of, universe_of}
-use Rattle.dep_model.specs.declared.schema.Schema.{Schema}
+use Rattle.schema_model.specs.Schemas.{width_of, theory_of, universe_of, theory_in}
+use Rattle.schema_model.specs.Schemas.{Schema}
 use Rattle.schema_printer.specs.Printing.{set_text}
 use Rattle.schema_printer.specs.Spelling.{printed_names_of}
 use Rattle.fd_closure.specs.LeftSides.{IsWideScheme}
@@ -32,15 +32,15 @@ HasManyKeys schema = (found : List AttrSet)
 -- refused: the universe is too wide to be searched, or has too many keys
 abbrev pub RefusesKeys : Schema → Allowed
 RefusesKeys schema response =
-    (IsTooWide schema × Says Refused (too_wide_text (printed_names_of schema) (universe_of schema)) response)
-    ⊎ ((IsTooWide schema → ⊥) × HasManyKeys schema × Says Refused too_many_keys_text response)
+    (IsTooWide (theory_in schema) × Says Refused (too_wide_text (printed_names_of schema) (universe_of schema)) response)
+    ⊎ ((IsTooWide (theory_in schema) → ⊥) × HasManyKeys schema × Says Refused too_many_keys_text response)
 
 -- yes, with exactly all keys of the universe, ascending; refused where the universe is too wide to be
 -- searched, or has too many keys
 abbrev pub ListsKeys : Schema → Allowed
 ListsKeys schema response =
     ((keys : List AttrSet) × AreAllKeys (width_of schema) (theory_of schema) (universe_of schema) keys
-    × (length keys ≤ MOST_KEYS) × (IsTooWide schema → ⊥)
+    × (length keys ≤ MOST_KEYS) × (IsTooWide (theory_in schema) → ⊥)
     × Says Yes (sets_text (printed_names_of schema) keys) response)
     ⊎ RefusesKeys schema response
 

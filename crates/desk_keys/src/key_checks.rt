@@ -5,7 +5,7 @@ ghost use Rattle.attr_sets.specs.Sets.{attributes};
 ghost use Rattle.dep_basis.specs.Decisions.{IsBrokenBy};
 ghost use Rattle.dep_model.specs.Dependencies.{fd};
 ghost use Rattle.dep_model.specs.Keys.{IsSuperkey};
-ghost use Rattle.dep_model.specs.Schemas.{width_of, universe_of, theory_of};
+ghost use Rattle.schema_model.specs.Schemas.{width_of, universe_of, theory_of};
 ghost use Rattle.schema_printer.specs.Spelling.{printed_names_of};
 ghost use Rattle.typed_rows.specs.Shown.{shown_tuples};
 ghost use Rattle.desk_keys.specs.KeyChecks.{ChecksKey, TestsKey, IsKeyText, IsNoSuperkey, key_within_text, no_superkey_text, without_text};
@@ -16,10 +16,11 @@ use attr_sets::AttrSet;
 use byte_texts::add;
 use closure_steps::{Without, closures_without};
 use dep_basis::{Decision, closure, decide};
-use dep_model::{Dep, OutOfMemory, Schema};
+use dep_model::{Dep, OutOfMemory};
 use desk_arguments::set_of;
 use desk_responses::{EarlyExit, Response, Status};
 use key_listing::one_key;
+use schema_model::Schema;
 use schema_printer::add_set;
 use std::alloc::Global;
 use typed_rows::print_two_rows;
@@ -45,7 +46,7 @@ fn test_key(alloc: Global, schema: &Schema, set: AttrSet) -> Result<Response, Ou
         lhs: set,
         rhs: AttrSet::full(schema.width()),
     };
-    match decide(schema, goal) {
+    match decide(&schema.theory(), goal) {
         Decision::Implied => superkey_response(alloc, schema, set),
         Decision::Broken { agreement } => {
             let text = no_superkey_lines(alloc, schema, set, agreement)?;
@@ -62,7 +63,7 @@ fn superkey_response(alloc: Global, schema: &Schema, set: AttrSet) -> Result<Res
     ensures response { IfOk result (λ response. TestsKey schema.now (attributes set)
         (response_value response)) }
 {
-    let key = one_key(schema, set);
+    let key = one_key(&schema.theory(), set);
     if key == set {
         let text = key_lines(alloc, schema, set)?;
         return Ok(Response::with_text(Status::Yes, text));
@@ -76,7 +77,7 @@ fn key_lines(alloc: Global, schema: &Schema, key: AttrSet) -> Result<Vec<u8>, Ou
     requires within { IsSubset (attributes key) (universe_of schema.now) }
     ensures text { IfOk result (λ text. IsKeyText schema.now (attributes key) text.items) }
 {
-    let found = closures_without(alloc, schema, key)?;
+    let found = closures_without(alloc, &schema.theory(), key)?;
     let mut text = Vec::new(alloc);
     add_set(&mut text, schema, key)?;
     add(&mut text, b" is a key")?;
@@ -130,7 +131,7 @@ fn no_superkey_lines(
         (fd (attributes set) (universe_of schema.now)) (attributes agreement) }
     ensures text { IfOk result (λ text. IsNoSuperkey schema.now (attributes set) text.items) }
 {
-    let missing = AttrSet::full(schema.width()).difference(closure(schema, set));
+    let missing = AttrSet::full(schema.width()).difference(closure(&schema.theory(), set));
     let text = print_no_superkey(alloc, schema, set, missing, agreement)?;
     Ok(text)
 }

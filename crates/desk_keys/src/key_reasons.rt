@@ -2,7 +2,7 @@ ghost use Rattle.std.specs.Prelude.{◌≡◌, ◌↔◌, ◌≤◌, ◌++◌, �
 ghost use Rattle.attr_sets.specs.Attributes.{below, IsSubset};
 ghost use Rattle.attr_sets.specs.Sets.{attributes};
 ghost use Rattle.attr_sets.specs.declared.set.TheConstants.{MOST_ATTRIBUTES};
-ghost use Rattle.dep_model.specs.Schemas.{width_of, theory_of, universe_of};
+ghost use Rattle.schema_model.specs.Schemas.{width_of, theory_of, universe_of, theory_in};
 ghost use Rattle.key_listing.specs.Listing.{AreAllKeys};
 ghost use Rattle.key_listing.specs.Refusals.{IsTooWide};
 ghost use Rattle.key_listing.specs.declared.refusal.TheConstants.{MOST_KEYS};
@@ -14,16 +14,17 @@ ghost use Rattle.desk_responses.specs.Responses.{response_value, RespondsAs};
 use crate::keys::{keys_exit, set_lines};
 use attr_sets::AttrSet;
 use byte_texts::add;
-use dep_model::{Failure, OutOfMemory, Schema};
+use dep_model::{Failure, OutOfMemory};
 use desk_responses::{EarlyExit, Response, Status, put_set_line};
 use key_listing::keys;
+use schema_model::Schema;
 use std::alloc::Global;
 
 /// All keys of a schema's universe, below what they have in common and what is in none of them.
 pub fn explain_keys(alloc: Global, schema: &Schema) -> Result<Response, EarlyExit>
     ensures response { RespondsAs (ExplainsKeys schema.now) result }
 {
-    match keys(alloc, schema) {
+    match keys(alloc, &schema.theory()) {
         Ok(keys) => Ok(explained_keys(alloc, schema, &keys)?),
         Err(Failure::Refused(refusal)) => Err(keys_exit(alloc, schema, &refusal)),
         Err(Failure::OutOfMemory) => Err(EarlyExit::OutOfMemory),
@@ -34,7 +35,7 @@ fn explained_keys(alloc: Global, schema: &Schema, keys: &[AttrSet]) -> Result<Re
     requires keys { AreAllKeys (width_of schema.now) (theory_of schema.now) (universe_of schema.now)
         keys.now }
     requires within_limit { length keys.now ≤ MOST_KEYS }
-    requires narrow { IsTooWide schema.now → ⊥ }
+    requires narrow { IsTooWide (theory_in schema.now) → ⊥ }
     ensures response { IfOk result (λ response. ExplainsKeys schema.now (response_value response)) }
 {
     let mut text = reason_lines(alloc, schema, keys)?;

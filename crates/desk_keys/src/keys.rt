@@ -1,7 +1,7 @@
 ghost use Rattle.std.specs.Prelude.{◌≡◌, All, IfOk};
 ghost use Rattle.attr_sets.specs.Attributes.{IsSubset};
 ghost use Rattle.attr_sets.specs.Sets.{attributes};
-ghost use Rattle.dep_model.specs.Schemas.{universe_of};
+ghost use Rattle.schema_model.specs.Schemas.{universe_of, theory_in};
 ghost use Rattle.schema_printer.specs.Spelling.{printed_names_of};
 ghost use Rattle.dep_model.specs.declared.failure.Failure.TheVariants as failed;
 ghost use Rattle.key_listing.specs.Refusals.{IsRefusedListing};
@@ -11,10 +11,11 @@ ghost use Rattle.desk_responses.specs.Responses.{response_value, RespondsAs, Exi
 
 use attr_sets::AttrSet;
 use byte_texts::add;
-use dep_model::{Failure, OutOfMemory, Schema};
+use dep_model::{Failure, OutOfMemory};
 use desk_responses::{EarlyExit, Response, Status, too_wide_exit};
 use desk_texts::line_of;
 use key_listing::{KeyRefusal, keys};
+use schema_model::Schema;
 use schema_printer::add_set;
 use std::alloc::Global;
 
@@ -22,7 +23,7 @@ use std::alloc::Global;
 pub fn list_keys(alloc: Global, schema: &Schema) -> Result<Response, EarlyExit>
     ensures response { RespondsAs (ListsKeys schema.now) result }
 {
-    match keys(alloc, schema) {
+    match keys(alloc, &schema.theory()) {
         Ok(keys) => Ok(sets_response(alloc, schema, &keys)?),
         Err(Failure::Refused(refusal)) => Err(keys_exit(alloc, schema, &refusal)),
         Err(Failure::OutOfMemory) => Err(EarlyExit::OutOfMemory),
@@ -31,7 +32,7 @@ pub fn list_keys(alloc: Global, schema: &Schema) -> Result<Response, EarlyExit>
 
 /// The keys are not listed.
 pub fn keys_exit(alloc: Global, schema: &Schema, refusal: &KeyRefusal) -> EarlyExit
-    requires refused { IsRefusedListing schema.now (failed.Refused refusal.now) }
+    requires refused { IsRefusedListing (theory_in schema.now) (failed.Refused refusal.now) }
     ensures exits { ExitsAs (RefusesKeys schema.now) result }
 {
     match refusal {

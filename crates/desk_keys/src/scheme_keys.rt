@@ -3,7 +3,7 @@ ghost use Rattle.std.specs.List.{slice_range};
 ghost use Rattle.attr_sets.specs.Attributes.{IsSubset};
 ghost use Rattle.attr_sets.specs.Sets.{attributes};
 ghost use Rattle.dep_model.specs.Plans.{schemes_of};
-ghost use Rattle.dep_model.specs.Schemas.{universe_of};
+ghost use Rattle.schema_model.specs.Schemas.{universe_of, theory_in};
 ghost use Rattle.schema_printer.specs.Spelling.{printed_names_of};
 ghost use Rattle.plans.specs.Plans.{IsPlanOver, plan_of};
 ghost use Rattle.desk_keys.specs.Keys.{EndsKeys, HasKeys, ListsKeysOfPlan, keyed_text, keys_text, too_many_scheme_keys_text};
@@ -12,17 +12,18 @@ ghost use Rattle.desk_responses.specs.ResponseValues.{Says};
 ghost use Rattle.desk_responses.specs.Responses.{RespondsAs, ExitsAs};
 
 use attr_sets::AttrSet;
-use dep_model::{Failure, OutOfMemory, Schema};
+use dep_model::{Failure, OutOfMemory};
 use desk_responses::{EarlyExit, Response, Status, put_set_line, too_wide_exit};
 use desk_texts::line_of;
 use key_listing::{SchemeKeyRefusal, keys_of_scheme};
 use plans::Plan;
+use schema_model::Schema;
 use schema_printer::print_set;
 use std::alloc::Global;
 
 /// The keys of the schemes of a plan.
 pub fn list_keys_of_plan(alloc: Global, schema: &Schema, plan: &Plan) -> Result<Response, EarlyExit>
-    requires universe { IsPlanOver schema.now plan.now }
+    requires universe { IsPlanOver (theory_in schema.now) plan.now }
     ensures response { RespondsAs (ListsKeysOfPlan schema.now (plan_of plan.now)) result }
 {
     list_keys_of_schemes(alloc, schema, plan.schemes())
@@ -127,7 +128,7 @@ fn keys_or_stop(alloc: Global, schema: &Schema, scheme: AttrSet) -> Result<Vec<A
         (λ keys. HasKeys schema.now (record { scheme = attributes scheme; keys = keys.items })) }
     ensures ends { IfErr result (ExitsAs (EndsKeys schema.now (attributes scheme))) }
 {
-    match keys_of_scheme(alloc, schema, scheme) {
+    match keys_of_scheme(alloc, &schema.theory(), scheme) {
         Ok(keys) => Ok(keys),
         Err(Failure::Refused(SchemeKeyRefusal::TooManyKeys { .. })) => {
             Err(too_many_scheme_keys_exit(alloc, schema, scheme))

@@ -2,8 +2,8 @@
 use Rattle.std.proofs.Common.{◌≡◌, ℕ, zero, suc, Bool, true, false, Option, Some, None, List, ◌++◌, sym, ap, ◌∙◌}
 use Rattle.std.specs.Prelude.{◌&&◌, MatchOption, slice_get}
 use Rattle.dep_model.specs.Dependencies.{Dependency}
-use Rattle.dep_model.specs.Schemas.{theory_of}
-use Rattle.dep_model.specs.declared.schema.Schema.{Schema}
+use Rattle.schema_model.specs.Schemas.{theory_of}
+use Rattle.schema_model.specs.Schemas.{Schema}
 use Rattle.desk_measures.specs.Findings.{Finding, FindsBelow, FindsBoth, FindsNothing}
 use Rattle.desk_measures.specs.Measures.{FindsWhere}
 use Rattle.desk_measures.specs.Offences.{OfDependency, OfEachDependency}

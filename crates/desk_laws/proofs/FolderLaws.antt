@@ -4,7 +4,7 @@ use Rattle.std.specs.Prelude.{codes, IsTrue}
 use Rattle.attr_sets.specs.declared.set.AttrSet.{AttrSet}
 use Rattle.dep_model.specs.Plans.{schemes_of}
 use Rattle.dep_model.specs.Tuples.{Relation}
-use Rattle.dep_model.specs.declared.schema.Schema.{Schema}
+use Rattle.schema_model.specs.Schemas.{Schema}
 use Rattle.dep_model.specs.declared.form.Form.{Form}
 use Rattle.dep_model.specs.declared.form.Form.TheVariants.{Third, Bcnf, Fourth}
 use Rattle.table_names.specs.TableNames.{GivenNames}
@@ -19,7 +19,7 @@ use Rattle.desk_inputs.specs.Plans.{plan_file}
 use Rattle.desk_inputs.specs.Readings.{known_files}
 use Rattle.desk_inputs.specs.Rows.{rows_file}
 use Rattle.desk_outside.specs.Files.{Files}
-use Rattle.desk_responses.specs.ResponseValues.{ResponseValue, Unless}
+use Rattle.desk_responses.specs.ResponseValues.{Allowed, ResponseValue, Unless}
 use Rattle.desk_tables.specs.OwnFolders.{FolderStops, Looks, MigratesInto, MigratesPlanInto, MigratesRowsInto, MigratesSchemesInto}
 use Rattle.desk_words.specs.Forms.{form_of, form_over_rows, form_over_schema, after_migrate, after_migrate_form, after_migrate_plan, normal_form}
 use Rattle.desk_laws.specs.Completeness.{IsYesOrNo, IsAnsweredBy, HasPlanInForm, RequiresAll}
@@ -30,6 +30,15 @@ rows_into : (r : Schema) (names : GivenNames) (plan : List AttrSet) (folder : Li
     → MigratesRowsInto r names plan folder rows response → IsYesOrNo response.status
 rows_into r names plan folder rows response (own, is, (plain, answers, says)) =
     subst IsYesOrNo (sym (ap (λ (a : ResponseValue). a.status) says)) (MigratesRows-yes_or_no r names (schemes_of plan) rows plain answers)
+
+-- a folder for the tables alone, and then the rest
+abbrev WithFreeFolder : Looks → List ℕ → Allowed → Allowed
+WithFreeFolder looks folder rest = Unless (FolderStops looks folder) (IsTrue (looks folder true)) rest
+
+free_folder : (looks : Looks) (folder : List ℕ) (rest : Allowed) (response : ResponseValue)
+    → (IsTrue (looks folder false) → ⊥) → WithFreeFolder looks folder rest response → rest response
+free_folder looks folder rest response free (inl (taken, says)) = absurd (free taken)
+free_folder looks folder rest response free (inr (is, answers)) = answers
 
 form_asks : (form : Form) (files : Files) (name file folder : List ℕ) (looks : Looks) (response : ResponseValue)
     → Answers looks (known_files files) (codes "migrate" ∷ form_word form ∷ name ∷ file ∷ codes "into" ∷ folder ∷ []) response
@@ -46,23 +55,14 @@ pub form_into_answered : (form : Form) (looks : Looks) (files : Files) (name fil
     → RequiresAll schema → HasPlanInForm schema form → (IsTrue (looks folder false) → ⊥)
     → IsAnsweredBy looks files (codes "migrate" ∷ form_word form ∷ name ∷ file ∷ codes "into" ∷ folder ∷ [])
 form_into_answered form looks files name file folder schema rows held_schema held_rows none can free response answered =
-    after_schema files name schema
+    let moves : List AttrSet → Allowed = λ plan. MigratesRowsInto schema [] plan folder rows in
+    after_form schema form (λ plan. WithoutMissing schema [] (schemes_of plan) (WithFreeFolder looks folder (moves plan))) response can
+    (λ plan found. after_missing schema [] (schemes_of plan) (WithFreeFolder looks folder (moves plan)) response none
+    (λ stands. rows_into schema [] plan folder rows response (free_folder looks folder (moves plan) response free stands)) found)
+    (after_rows files schema file rows (MigratesInto looks schema form folder) response held_rows
+    (after_schema files name schema
     (λ r. WithFile (rows_file r) (known_files files) file (MigratesInto looks r form folder)) response held_schema
-    (λ r same more. after_rows files schema r file rows (MigratesInto looks r form folder) response same held_rows
-    (λ x found. after_form schema r form
-    (λ plan. WithoutMissing r [] (schemes_of plan)
-    (Unless (FolderStops looks folder) (IsTrue (looks folder true)) (MigratesRowsInto r [] plan folder x))) response same can
-    (λ plan stands. after_missing schema r [] (schemes_of plan)
-    (Unless (FolderStops looks folder) (IsTrue (looks folder true)) (MigratesRowsInto r [] plan folder x)) response same none
-    (passed r plan x) stands)
-    found) more)
-    (form_asks form files name file folder looks response answered)
-  where
-    passed : (r : Schema) (plan : List AttrSet) (x : Relation)
-        → Unless (FolderStops looks folder) (IsTrue (looks folder true)) (MigratesRowsInto r [] plan folder x) response
-        → IsYesOrNo response.status
-    passed r plan x (inl (taken, says)) = absurd (free taken)
-    passed r plan x (inr (is, answers)) = rows_into r [] plan folder x response answers
+    (form_asks form files name file folder looks response answered)))
 
 plan_asks : (files : Files) (name planned file folder : List ℕ) (looks : Looks) (response : ResponseValue)
     → Answers looks (known_files files) (codes "migrate" ∷ codes "plan" ∷ name ∷ planned ∷ file ∷ codes "into" ∷ folder ∷ []) response
@@ -81,21 +81,16 @@ pub plan_into_answered : (looks : Looks) (files : Files) (name planned file fold
     → IsAnsweredBy looks files (codes "migrate" ∷ codes "plan" ∷ name ∷ planned ∷ file ∷ codes "into" ∷ folder ∷ [])
 plan_into_answered looks files name planned file folder schema plan rows held_schema held_plan held_rows none small free
     response answered =
-    after_schema files name schema
+    let moves = MigratesSchemesInto schema plan.names plan.schemes folder rows in
+    let kept = WithoutLoss schema plan.schemes moves in
+    after_missing schema plan.names plan.schemes (WithFreeFolder looks folder kept) response none
+    (λ stands. after_loss schema plan.schemes moves response small
+    (λ gives. rows_into schema plan.names gives.0 folder rows response gives.2)
+    (free_folder looks folder kept response free stands))
+    (after_rows files schema file rows (MigratesPlanInto looks schema plan.names plan.schemes folder) response held_rows
+    (after_plan files schema planned plan
+    (λ p. WithFile (rows_file schema) (known_files files) file (MigratesPlanInto looks schema p.names p.schemes folder)) response held_plan
+    (after_schema files name schema
     (λ r. WithFile (plan_file r) (known_files files) planned
     (λ p. WithFile (rows_file r) (known_files files) file (MigratesPlanInto looks r p.names p.schemes folder))) response held_schema
-    (λ r same more. after_plan files schema r planned plan
-    (λ p. WithFile (rows_file r) (known_files files) file (MigratesPlanInto looks r p.names p.schemes folder)) response same held_plan
-    (λ p is found. after_rows files schema r file rows (MigratesPlanInto looks r p.names p.schemes folder) response same held_rows
-    (λ x stands. after_missing schema r p.names p.schemes
-    (Unless (FolderStops looks folder) (IsTrue (looks folder true)) (WithoutLoss r p.schemes (MigratesSchemesInto r p.names p.schemes folder x))) response same none
-    (λ more. passed r p x more
-    (λ rest. after_loss schema r p.schemes plan.schemes (MigratesSchemesInto r p.names p.schemes folder x) response same (ap (λ (q : NamedSchemes). q.schemes) is) small
-    (λ gives. rows_into r p.names gives.0 folder x response gives.2) rest)) stands) found) more)
-    (plan_asks files name planned file folder looks response answered)
-  where
-    passed : (r : Schema) (p : NamedSchemes) (x : Relation)
-        → Unless (FolderStops looks folder) (IsTrue (looks folder true)) (WithoutLoss r p.schemes (MigratesSchemesInto r p.names p.schemes folder x)) response
-        → (WithoutLoss r p.schemes (MigratesSchemesInto r p.names p.schemes folder x) response → IsYesOrNo response.status) → IsYesOrNo response.status
-    passed r p x (inl (taken, says)) goes = absurd (free taken)
-    passed r p x (inr (is, answers)) goes = goes answers
+    (plan_asks files name planned file folder looks response answered))))

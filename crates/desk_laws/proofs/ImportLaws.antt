@@ -15,30 +15,29 @@ use Rattle.desk_responses.specs.declared.status.Status.TheVariants.{Yes}
 use Rattle.desk_inputs.specs.FileKinds.{IsFile, WithFile}
 use Rattle.desk_inputs.specs.Readings.{known_files}
 use Rattle.desk_inputs.specs.Sql.{sql_file}
-use Rattle.desk_inputs.specs.declared.sql.TheConstants.{MOST_SQL_BYTES}
 use Rattle.desk_cli.specs.Performs.{Answers, Performs}
 use Rattle.desk_tables.specs.OwnFolders.{Looks}
 use Rattle.desk_words.specs.Forms.{after_import, dialect_of, file_and_table, form_of}
 use Rattle.desk_laws.specs.Completeness.{IsAnswered, IsYesOrNo}
 use Rattle.desk_laws.specs.OneReading.{HasOneReading}
-use Rattle.desk_laws.proofs.OneFile.{one_after}
-use Rattle.desk_laws.proofs.StopLemmas.{file_goes, one_content}
+use Rattle.desk_laws.proofs.OneFile.{after_file, one_after_file}
 
 -- ---- it is answered
+-- the bytes of a file are one value
+bytes_once : (text : List ℕ) → HasOneReading (λ (value : List ℕ). value ≡ text) (λ (refusal : ⊥). ⊥)
+bytes_once text = record {
+  one_meaning = λ value other is also. is ∙ sym also;
+  one_refusal = λ refusal other is also. absurd is;
+  never_both = λ value refusal is refused. refused;
+}
+
 pub sql_answer : (files : Files) (dialect : Dialect) (file table : List ℕ) (wanted : TableName) (text printed : List ℕ) (response : ResponseValue)
     → IsFile sql_file (known_files files) file text → wanted_table table ≡ Some wanted
     → imported_text dialect wanted (without_mark text) ≡ Ok printed
     → WithFile sql_file (known_files files) file (ImportsTable dialect table file) response
     → response ≡ text_only Yes printed
-sql_answer files dialect file table wanted text printed response is wants prints (inl (inl exit)) =
-    absurd (file_goes files file is.bytes MOST_SQL_BYTES response is.content.0 is.content.1 exit)
-sql_answer files dialect file table wanted text printed response is wants prints (inl (inr (why, refused, says))) =
-    absurd refused.refused
-sql_answer files dialect file table wanted text printed response is wants prints (inr (value, also, found)) =
-    let same : value ≡ text =
-    also.means ∙ one_content files file also.bytes is.bytes also.content.0 is.content.0 ∙ sym is.means in
-    found
-    ∙ ap (λ (t : List ℕ). wanted_response dialect file t (wanted_table table)) same
+sql_answer files dialect file table wanted text printed response is wants prints answered =
+    after_file files file sql_file bytes_once text (ImportsTable dialect table file) response is answered
     ∙ ap (wanted_response dialect file text) wants
     ∙ ap (import_response file (without_mark text)) prints
 
@@ -79,17 +78,7 @@ postgres_answered files file table wanted text printed is wants prints looks res
     (postgres_asks files file table looks response answered)
 
 -- ---- it has one answer
-bytes_once : (text : List ℕ) → HasOneReading (λ (value : List ℕ). value ≡ text) (λ (refusal : ⊥). ⊥)
-bytes_once text = record {
-  one_meaning = λ value other is also. is ∙ sym also;
-  one_refusal = λ refusal other is also. absurd is;
-  never_both = λ value refusal is refused. refused;
-}
-
 pub one_import_of_sql : (files : Files) (dialect : Dialect) (file table : List ℕ)
     → AllowsOne (WithFile sql_file (known_files files) file (ImportsTable dialect table file))
 one_import_of_sql files dialect file table =
-    one_after files file sql_file (λ (text : List ℕ). text) (λ (bytes value : List ℕ). value ≡ bytes) bytes_once
-    (λ bytes value means. means) (ImportsTable dialect table file)
-    (λ value other_value one other is also same found said.
-    found ∙ ap (λ (t : List ℕ). wanted_response dialect file t (wanted_table table)) same ∙ sym said)
+    one_after_file files file sql_file bytes_once (ImportsTable dialect table file) (λ text is one other found said. found ∙ sym said)

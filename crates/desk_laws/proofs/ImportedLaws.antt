@@ -10,8 +10,8 @@ use Rattle.attr_sets.specs.declared.set.AttrSet.{AttrSet}
 use Rattle.ddl_text.specs.Ddl.{comment, ddl_text, is_empty, is_never_missing, key_comment, left_out_line, table_text}
 use Rattle.ddl_text.specs.declared.table.TableDesign.{TableDesign}
 use Rattle.dep_model.specs.Plans.{IsPlan, schemes_of}
-use Rattle.dep_model.specs.Schemas.{nullable_of, theory_of, width_of}
-use Rattle.dep_model.specs.declared.schema.Schema.{Schema}
+use Rattle.schema_model.specs.Schemas.{nullable_of, theory_of, width_of}
+use Rattle.schema_model.specs.Schemas.{Schema}
 use Rattle.implication_laws.proofs.ImplyingLaws.{refused_not_yes, no_not_yes}
 use Rattle.design_order.proofs.OrderLemmas.{order-plan}
 use Rattle.import_laws.proofs.LawLemmas.{table_imported}

@@ -1,5 +1,4 @@
 pub mod AcceptedLaws
-pub mod SchemaLemmas
 pub mod StopLemmas
 pub mod CompleteLaws
 pub mod TableLaws

@@ -1,13 +1,10 @@
 -- Where the schema file means a schema and the CSV file rows, what is wrong with them is said.
-use Rattle.std.proofs.Common.{◌≡◌, ℕ, Bool, true, false, List, [], ◌∷◌, length, inl, inr, ap, sym, subst, ◌∙◌}
-use Rattle.std.specs.Prelude.{codes, replicate}
+use Rattle.std.proofs.Common.{◌≡◌, ℕ, Bool, true, false, List, [], ◌∷◌, inl, inr, ap, subst}
+use Rattle.std.specs.Prelude.{codes}
 use Rattle.armstrong_rel.specs.Refusals.{IsFirstMvd}
-use Rattle.dep_model.specs.Schemas.{theory_of}
+use Rattle.schema_model.specs.Schemas.{theory_of}
 use Rattle.dep_model.specs.Tuples.{Relation}
-use Rattle.dep_model.specs.declared.column_type.ColumnType.TheVariants.{Text}
-use Rattle.dep_model.specs.declared.schema.Schema.{Schema}
-use Rattle.schema_grammar.specs.Declarations.{Declarations}
-use Rattle.schema_grammar.specs.Texts.{declarations_of}
+use Rattle.schema_model.specs.Schemas.{Schema}
 use Rattle.desk_cli.specs.Performs.{Answers, Performs, Does, AnswersRows, WithValues}
 use Rattle.desk_inputs.specs.FileKinds.{IsFile, WithFile}
 use Rattle.desk_inputs.specs.Inputs.{schema_file}
@@ -23,7 +20,8 @@ use Rattle.desk_responses.specs.ResponseValues.{ResponseValue, Allowed}
 use Rattle.desk_responses.specs.declared.status.Status.{Status}
 use Rattle.desk_words.specs.Forms.{form_of, form_over_rows, form_over_schema, after_offences, schema_and_file, schema_and_rows}
 use Rattle.desk_laws.specs.Completeness.{IsYesOrNo, IsAnswered}
-use Rattle.desk_laws.proofs.CompleteLaws.{AreSame, after_schema, after_rows}
+use Rattle.desk_laws.proofs.CompleteLaws.{after_schema, after_rows}
+use Rattle.desk_laws.proofs.OneMeasure.{one_of_texts}
 use Rattle.desk_tables.specs.OwnFolders.{Looks}
 
 status_said : (clean : Bool) (status : Status) → status ≡ status_of clean → IsYesOrNo status
@@ -39,11 +37,10 @@ module _ (files : Files) (words : List (List ℕ)) (name file : List ℕ) (Lists
   rows_answered : (schema : Schema) (rows : Relation) → IsFile schema_file (known_files files) name schema
       → IsFile (rows_file schema) (known_files files) file rows → IsAnswered files words
   rows_answered schema rows held_schema held_rows looks response answered =
-      after_schema files name schema (λ r. WithFile (rows_file r) (known_files files) file (Lists r)) response
-      held_schema
-      (λ r same more. after_rows files schema r file rows (Lists r) response same held_rows
-      (λ x found. says r x response found) more)
-      (asks looks response answered)
+      says schema rows response
+      (after_rows files schema file rows (Lists schema) response held_rows
+      (after_schema files name schema (λ r. WithFile (rows_file r) (known_files files) file (Lists r)) response held_schema
+      (asks looks response answered)))
 
 offences_asks : (files : Files) (name file : List ℕ) (looks : Looks) (response : ResponseValue)
     → Answers looks (known_files files) (codes "offences" ∷ name ∷ file ∷ []) response
@@ -82,23 +79,20 @@ kept_asks : (files : Files) (name file : List ℕ) (looks : Looks) (response : R
 unfolding form_of form_over_schema form_over_rows schema_and_rows Performs Does AnswersRows
 kept_asks files name file looks response answered = answered
 
-keeps_rows : (schema r : Schema) (x : Relation) (response : ResponseValue) → AreSame schema r
-    → ((k : ℕ) → IsFirstMvd (theory_of schema) k → ⊥) → KeepsRows r x response → IsYesOrNo response.status
-keeps_rows schema r x response same functional (inl (kept, are, says)) =
-    inl (ap (λ (a : ResponseValue). a.status) says)
-keeps_rows schema r x response same functional (inr (dep, first, says)) =
-    absurd (functional dep (subst (λ (d : Declarations). IsFirstMvd d.deps dep) (sym same) first))
+keeps_rows : (s : Schema) (rows : Relation) (response : ResponseValue) → ((k : ℕ) → IsFirstMvd (theory_of s) k → ⊥)
+    → KeepsRows s rows response → IsYesOrNo response.status
+keeps_rows s rows response functional (inl (kept, are, says)) = inl (ap (λ (a : ResponseValue). a.status) says)
+keeps_rows s rows response functional (inr (dep, first, says)) = absurd (functional dep first)
 
 pub kept_answered : (files : Files) (name file : List ℕ) (schema : Schema) (rows : Relation)
     → IsFile schema_file (known_files files) name schema → IsFile (rows_file schema) (known_files files) file rows
     → ((k : ℕ) → IsFirstMvd (theory_of schema) k → ⊥)
     → IsAnswered files (codes "kept" ∷ name ∷ file ∷ [])
 kept_answered files name file schema rows held_schema held_rows functional looks response answered =
-    after_schema files name schema (λ r. WithFile (rows_file r) (known_files files) file (KeepsRows r)) response
-    held_schema
-    (λ r same more. after_rows files schema r file rows (KeepsRows r) response same held_rows
-    (λ x found. keeps_rows schema r x response same functional found) more)
-    (kept_asks files name file looks response answered)
+    keeps_rows schema rows response functional
+    (after_rows files schema file rows (KeepsRows schema) response held_rows
+    (after_schema files name schema (λ r. WithFile (rows_file r) (known_files files) file (KeepsRows r)) response held_schema
+    (kept_asks files name file looks response answered)))
 
 -- ---- rows of whatever values
 measure_asks : (files : Files) (name file : List ℕ) (looks : Looks) (response : ResponseValue)
@@ -107,39 +101,19 @@ measure_asks : (files : Files) (name file : List ℕ) (looks : Looks) (response 
 unfolding form_of form_over_schema form_over_rows schema_and_file Performs Does
 measure_asks files name file looks response answered = answered
 
--- what a schema with text columns alone declares
-abbrev with_texts : Declarations → Declarations
-with_texts d =
-    record d { columns = replicate (length d.names) Text }
-
-texts_declare : (s a : Schema) → HasTextsAlone s a → declarations_of a ≡ with_texts (declarations_of s)
-texts_declare s a first = λ i. record {
-  naming = first.naming i;
-  names = first.names i;
-  columns = first.types i;
-  nullable = first.nullable i;
-  deps = first.theory i;
-  lines = first.lines i;
-}
-
--- text columns alone of two schemas that declare the same
-texts_same : (s r a b : Schema) → AreSame s r → HasTextsAlone s a → HasTextsAlone r b → AreSame a b
-texts_same s r a b same first second =
-    texts_declare s a first ∙ ap (λ (d : Declarations). with_texts d) same ∙ sym (texts_declare r b second)
-
 pub measure_answered : (files : Files) (name file : List ℕ) (schema texts : Schema) (rows : Relation)
     → IsFile schema_file (known_files files) name schema → HasTextsAlone schema texts
     → IsFile (rows_file texts) (known_files files) file rows
     → IsAnswered files (codes "measure" ∷ name ∷ file ∷ [])
 unfolding WithValues
 measure_answered files name file schema texts rows held_schema alone held_rows looks response answered =
-    after_schema files name schema (λ r. WithValues (known_files files) r file (MeasuresRows r)) response held_schema
-    (λ r same more. read r same more)
-    (measure_asks files name file looks response answered)
+    read
+    (after_schema files name schema (λ r. WithValues (known_files files) r file (MeasuresRows r)) response held_schema
+    (measure_asks files name file looks response answered))
   where
-    read : (r : Schema) → AreSame schema r → WithValues (known_files files) r file (MeasuresRows r) response
-        → IsYesOrNo response.status
-    read r same (others, also, more) =
-        after_rows files texts others file rows (MeasuresRows r) response
-        (texts_same schema r texts others same alone also) held_rows
-        (λ x found. status_said found.0 response.status (ap (λ (a : ResponseValue). a.status) found.3)) more
+    read : WithValues (known_files files) schema file (MeasuresRows schema) response → IsYesOrNo response.status
+    read (others, also, more) =
+        let found = after_rows files texts file rows (MeasuresRows schema) response held_rows
+        (subst (λ (t : Schema). WithFile (rows_file t) (known_files files) file (MeasuresRows schema) response)
+        (one_of_texts schema others texts also alone) more) in
+        status_said found.0 response.status (ap (λ (a : ResponseValue). a.status) found.3)

@@ -3,13 +3,13 @@ use Rattle.std.proofs.Common.{◌≡◌, ◌<◌, ℕ, List, length, Some, Optio
 use Rattle.std.specs.Prelude.{IsSomeAnd}
 use Rattle.desk_inputs.specs.FileKinds.{FileKind, FileStops, IsFile, IsRefusedFile, LoadStops, WithFile}
 use Rattle.desk_inputs.specs.Readings.{known_files}
-use Rattle.desk_laws.proofs.StopLemmas.{file_goes, one_content}
+use Rattle.desk_laws.proofs.StopLemmas.{With-goes, file_goes, one_content}
 use Rattle.desk_laws.specs.OneReading.{HasOneReading}
 use Rattle.desk_outside.specs.Files.{Files, bytes_of_file}
 use Rattle.desk_responses.specs.ResponseValues.{ResponseValue, Allowed}
 use Rattle.desk_responses.specs.declared.status.Status.TheVariants.{Refused}
 use Rattle.implication_laws.specs.OneAnswer.{AllowsOne}
-use Rattle.implication_laws.proofs.StepLaws.{same_says, With-alike}
+use Rattle.implication_laws.proofs.StepLaws.{same_says}
 
 one_load_stop : (files : Files) (name : List ℕ) (limit : ℕ) → AllowsOne (LoadStops (known_files files) name limit)
 one_load_stop files name limit one other (inl (unread, says)) (inl (also, said)) = says ∙ sym said
@@ -63,12 +63,44 @@ module _ (files : Files) (name : List ℕ) {Value View Refusal : Type 0} (kind :
       (moved (λ text. Means text (view w)) is.bytes also.bytes is.content.0 also.content.0
       (seen also.bytes w also.means))
 
-  -- after the file there is one answer, where it rests on the view of the value alone
-  pub one_after : (rest : Value → Allowed)
-      → ((v w : Value) (one other : ResponseValue) → Is v → Is w → view v ≡ view w → rest v one → rest w other
-      → one ≡ other)
+-- ---- values
+-- a kind of which each text means one value
+module _ (files : Files) (name : List ℕ) {Value Refusal : Type 0} (kind : FileKind Value Refusal)
+    (once : (text : List ℕ) → HasOneReading (kind.means text) (kind.refuses text)) where
+  abbrev IsValue : Value → Type 0
+  IsValue v = IsFile kind (known_files files) name v
+
+  pub one_value : (v w : Value) → IsValue v → IsValue w → v ≡ w
+  one_value v w is also =
+      one_view files name kind (λ (u : Value). u) kind.means once (λ text u means. means) v w is also
+
+  pub value_goes : (v : Value) (response : ResponseValue) → IsValue v → FileStops kind (known_files files) name response → ⊥
+  value_goes v response is stops =
+      goes files name kind (λ (u : Value). u) kind.means once (λ text u means. means) v response is stops
+
+  -- each answer after the file is one on its value
+  pub after_file : (v : Value) (rest : Value → Allowed) (response : ResponseValue) → IsValue v
+      → WithFile kind (known_files files) name rest response → rest v response
+  after_file v rest response is answered =
+      With-goes (FileStops kind (known_files files) name) IsValue rest v response (value_goes v response is)
+      (λ w also. one_value w v also is) answered
+
+  -- what is said of any two answers: of equal ones, and of those on the value of the file
+  pub two_after_file : (C : ResponseValue → ResponseValue → Type 0) (rest : Value → Allowed)
+      → ((one other : ResponseValue) → one ≡ other → C one other)
+      → ((v : Value) (one other : ResponseValue) → IsValue v → rest v one → rest v other → C one other)
+      → (one other : ResponseValue) → WithFile kind (known_files files) name rest one
+      → WithFile kind (known_files files) name rest other → C one other
+  two_after_file C rest by_path each one other (inl stops) (inl also) =
+      by_path one other
+      (one_stop files name kind (λ (u : Value). u) kind.means once (λ text u means. means) one other stops also)
+  two_after_file C rest by_path each one other (inl stops) (inr (w, is, remains)) = absurd (value_goes w one is stops)
+  two_after_file C rest by_path each one other (inr (v, is, rests)) second =
+      each v one other is rests (after_file v rest other is second)
+
+  -- after the file there is one answer, where there is one on its value
+  pub one_after_file : (rest : Value → Allowed) → ((v : Value) → IsValue v → AllowsOne (rest v))
       → AllowsOne (WithFile kind (known_files files) name rest)
-  one_after rest alike =
-      With-alike (FileStops kind (known_files files) name) (IsFile kind (known_files files) name) rest one_stop
-      (λ v response is stops. goes v response is stops)
-      (λ v w one other is also. alike v w one other is also (one_view v w is also))
+  one_after_file rest each one other first second =
+      two_after_file (λ one other. one ≡ other) rest (λ one other same. same)
+      (λ v one other is rests remains. each v is one other rests remains) one other first second

@@ -4,37 +4,25 @@ use Rattle.std.specs.Prelude.{slice_get}
 use Rattle.std.specs.List.{AllZip}
 use Rattle.attr_sets.specs.Attributes.{Attributes}
 use Rattle.csv_rows.specs.declared.part.PartialRows.{PartialRows}
-use Rattle.dep_model.specs.Dependencies.{Dependency}
 use Rattle.dep_model.specs.Plans.{IsPlan}
-use Rattle.dep_model.specs.Schemas.{names_of, naming_of, width_of}
+use Rattle.schema_model.specs.Schemas.{names_of, naming_of, width_of}
 use Rattle.dep_model.specs.Tuples.{Relation}
-use Rattle.dep_model.specs.declared.schema.Schema.{Schema}
-use Rattle.derivation.specs.Trees.{Tree}
-use Rattle.derivation_grammar.specs.Derivations.{Derives}
+use Rattle.schema_model.specs.Schemas.{Schema}
 use Rattle.desk_outside.specs.Files.{Files}
-use Rattle.headed_rows.specs.declared.headed_rows.Headed.{Headed}
-use Rattle.headed_rows.specs.declared.headed_rows.Limits.{Limits}
 use Rattle.implication_laws.specs.OneAnswer.{AllowsOne}
 use Rattle.implication_laws.proofs.StepLaws.{With-alike}
 use Rattle.plan_grammar.proofs.PlanLaws.{lines_within, lines_not_empty}
 use Rattle.lexer.specs.Lines.{line_texts, without_mark}
-use Rattle.proof_grammar.specs.Spelling.{SpellsWithin}
-use Rattle.schema_grammar.specs.Schemas.{MeansSchema}
-use Rattle.schema_grammar.specs.Texts.{declarations_of}
 use Rattle.table_join.specs.Tables.{PartialRelation, table_of_part, tables_of}
 use Rattle.desk_inputs.specs.Readings.{Reading, known_files}
 use Rattle.desk_responses.specs.ResponseValues.{ResponseValue, Allowed}
-use Rattle.csv_rows.specs.Reading.{RowsOf}
 use Rattle.desk_inputs.specs.FileKinds.{FileStops, IsFile, WithFile}
-use Rattle.desk_inputs.specs.Headed.{headed_file_for}
-use Rattle.desk_inputs.specs.Inputs.{derivation_file, proof_file, schema_file}
 use Rattle.desk_inputs.specs.Parts.{ArePartFiles, PartsStop, WithParts, part_file}
 use Rattle.desk_inputs.specs.Plans.{MeansTables, plan_file}
 use Rattle.plan_printer.specs.NamedPlans.{NamedSchemes}
 use Rattle.desk_inputs.specs.Rows.{rows_file}
-use Rattle.desk_laws.proofs.OneFile.{goes, one_after, one_stop, one_view}
-use Rattle.desk_laws.proofs.OneText.{derivation_text_once, headed_text_once, names_and_rows, part_text_once, plan_tables_once, proof_text_once, rows_text_once, schema_text_once, MeansNamesAndRows, MeansTable}
-use Rattle.schema_grammar.specs.Declarations.{Declarations}
+use Rattle.desk_laws.proofs.OneFile.{goes, one_after_file, one_stop, one_view}
+use Rattle.desk_laws.proofs.OneText.{part_text_once, plan_tables_once, rows_text_once, MeansTable}
 
 -- ---- plans
 -- the tables of a text are those of a plan
@@ -55,92 +43,17 @@ module _ (files : Files) where
   abbrev known : Reading
   known = known_files files
 
-  pub one_after_schema : (name : List ℕ) (rest : Schema → Allowed)
-      → ((s t : Schema) (one other : ResponseValue) → naming_of s ≡ naming_of t
-      → declarations_of s ≡ declarations_of t → rest s one → rest t other → one ≡ other)
-      → AllowsOne (WithFile schema_file known name rest)
-  one_after_schema name rest alike =
-      one_after files name schema_file declarations_of MeansSchema schema_text_once
-      (λ text s means. means) rest
-      (λ s t one other is also same. alike s t one other (ap (λ (d : Declarations). d.naming) same) same)
-
   pub one_after_plan : (s : Schema) (name : List ℕ) (rest : NamedSchemes → Allowed)
       → ((plan : NamedSchemes) → IsPlan (width_of s) plan.schemes → AllowsOne (rest plan))
       → AllowsOne (WithFile (plan_file s) known name rest)
   one_after_plan s name rest each =
-      one_after files name (plan_file s) (λ (plan : NamedSchemes). plan) (MeansTables s)
-      (plan_tables_once s) (λ text plan means. means) rest
-      (λ plan others one other is also same first second.
-      each plan (tables_plan s is.bytes plan is.means) one other first
-      (subst (λ (p : NamedSchemes). rest p other) (sym same) second))
-
-  -- what is said of any two answers: of equal ones, and of those on the plan of a file
-  pub after_one_plan : (s : Schema) (name : List ℕ) (C : ResponseValue → ResponseValue → Type 0)
-      (rest : NamedSchemes → Allowed) → ((one other : ResponseValue) → one ≡ other → C one other)
-      → ((plan : NamedSchemes) (one other : ResponseValue) → rest plan one → rest plan other → C one other)
-      → (one other : ResponseValue) → WithFile (plan_file s) known name rest one
-      → WithFile (plan_file s) known name rest other → C one other
-  after_one_plan s name C rest by_path alike one other (inl stops) (inl also) =
-      by_path one other
-      (one_stop files name (plan_file s) (λ (plan : NamedSchemes). plan) (MeansTables s) (plan_tables_once s)
-      (λ text plan means. means) one other stops also)
-  after_one_plan s name C rest by_path alike one other (inl stops) (inr (q, is, remains)) =
-      absurd (goes files name (plan_file s) (λ (plan : NamedSchemes). plan) (MeansTables s) (plan_tables_once s)
-      (λ text plan means. means) q one is stops)
-  after_one_plan s name C rest by_path alike one other (inr (p, is, rests)) (inl stops) =
-      absurd (goes files name (plan_file s) (λ (plan : NamedSchemes). plan) (MeansTables s) (plan_tables_once s)
-      (λ text plan means. means) p other is stops)
-  after_one_plan s name C rest by_path alike one other (inr (p, is, rests)) (inr (q, also, remains)) =
-      let same : p ≡ q =
-      one_view files name (plan_file s) (λ (plan : NamedSchemes). plan) (MeansTables s) (plan_tables_once s)
-      (λ text plan means. means) p q is also in
-      alike p one other rests (subst (λ (plan : NamedSchemes). rest plan other) (sym same) remains)
+      one_after_file files name (plan_file s) (plan_tables_once s) rest
+      (λ plan is. each plan (tables_plan s is.bytes plan is.means))
 
   pub one_after_rows : (s : Schema) (name : List ℕ) (rest : Relation → Allowed)
       → ((rows : Relation) → AllowsOne (rest rows)) → AllowsOne (WithFile (rows_file s) known name rest)
   one_after_rows s name rest each =
-      one_after files name (rows_file s) (λ (rows : Relation). rows) (λ text rows. RowsOf s text (Ok rows))
-      (rows_text_once s) (λ text rows means. means) rest
-      (λ rows others one other is also same first second.
-      each rows one other first (subst (λ (r : Relation). rest r other) (sym same) second))
-
-  pub one_after_proof : (s : Schema) (name : List ℕ) (rest : Tree → Allowed)
-      → ((tree : Tree) → AllowsOne (rest tree)) → AllowsOne (WithFile (proof_file s) known name rest)
-  one_after_proof s name rest each =
-      one_after files name (proof_file s) (λ (tree : Tree). tree) (SpellsWithin s) (proof_text_once s)
-      (λ text tree means. means) rest
-      (λ tree others one other is also same first second.
-      each tree one other first (subst (λ (t : Tree). rest t other) (sym same) second))
-
-  pub one_after_derivation : (s : Schema) (name : List ℕ) (rest : Dependency → Allowed)
-      → ((d : Dependency) → AllowsOne (rest d)) → AllowsOne (WithFile (derivation_file s) known name rest)
-  one_after_derivation s name rest each =
-      one_after files name (derivation_file s) (λ (d : Dependency). d) (Derives s) (derivation_text_once s)
-      (λ text d means. means) rest
-      (λ d others one other is also same first second.
-      each d one other first (subst (λ (e : Dependency). rest e other) (sym same) second))
-
-  -- what is said of any two answers: of equal ones, and of those on values that have the same names and rows
-  pub after_headed : (command : List ℕ) (limits : Limits) (name : List ℕ) (C : ResponseValue → ResponseValue → Type 0) (rest : Headed → Allowed)
-      → ((one other : ResponseValue) → one ≡ other → C one other)
-      → ((h k : Headed) (one other : ResponseValue) → IsFile (headed_file_for command limits) known name k
-      → names_and_rows h ≡ names_and_rows k → rest h one → rest k other → C one other)
-      → (one other : ResponseValue) → WithFile (headed_file_for command limits) known name rest one
-      → WithFile (headed_file_for command limits) known name rest other → C one other
-  after_headed command limits name C rest by_path alike one other (inl stops) (inl also) =
-      by_path one other
-      (one_stop files name (headed_file_for command limits) names_and_rows (MeansNamesAndRows limits) (headed_text_once limits)
-      (λ text h means. (h, means, refl)) one other stops also)
-  after_headed command limits name C rest by_path alike one other (inl stops) (inr (k, is, remains)) =
-      absurd (goes files name (headed_file_for command limits) names_and_rows (MeansNamesAndRows limits) (headed_text_once limits)
-      (λ text h means. (h, means, refl)) k one is stops)
-  after_headed command limits name C rest by_path alike one other (inr (h, is, rests)) (inl stops) =
-      absurd (goes files name (headed_file_for command limits) names_and_rows (MeansNamesAndRows limits) (headed_text_once limits)
-      (λ text h means. (h, means, refl)) h other is stops)
-  after_headed command limits name C rest by_path alike one other (inr (h, is, rests)) (inr (k, also, remains)) =
-      alike h k one other also
-      (one_view files name (headed_file_for command limits) names_and_rows (MeansNamesAndRows limits) (headed_text_once limits)
-      (λ text h means. (h, means, refl)) h k is also) rests remains
+      one_after_file files name (rows_file s) (rows_text_once s) rest (λ rows is. each rows)
 
   -- ---- several files
   module _ (s : Schema) where
@@ -214,7 +127,15 @@ module _ (files : Files) where
     all_read (n ∷ names) (p ∷ parts) (suc k) (e ∷ earlier) response are stops =
         all_read names parts k earlier response are.1 stops.1
 
-    same_tables : (names : List (List ℕ)) (ps qs : List PartialRows) → AllZip IsPart names ps
+    -- files that are read do not stop
+    pub parts_go : (names : List (List ℕ)) (parts : List PartialRows) (response : ResponseValue)
+        → ArePartFiles known s names parts → PartsStop known s names response → ⊥
+    parts_go names parts response are (first, stops) =
+        all_read names parts first.position first.earlier response are
+        (stops_at names first.position first.name first.earlier response first.stands first.before stops)
+
+    -- and give the same tables
+    pub same_tables : (names : List (List ℕ)) (ps qs : List PartialRows) → AllZip IsPart names ps
         → AllZip IsPart names qs → tables_of ps ≡ tables_of qs
     same_tables [] [] [] first second = refl
     same_tables [] [] (q ∷ qs) first second = absurd second
@@ -231,10 +152,15 @@ module _ (files : Files) where
     one_after_parts names rest each =
         With-alike (PartsStop known s names) (ArePartFiles known s names) (λ parts. rest (tables_of parts))
         (one_parts_stop names)
-        (λ parts response are stops.
-        let first = stops.0 in
-        all_read names parts first.position first.earlier response are
-        (stops_at names first.position first.name first.earlier response first.stands first.before stops.1))
+        (parts_go names)
         (λ ps qs one other are also first second.
         each (tables_of ps) one other first
         (subst (λ (tables : List PartialRelation). rest tables other) (sym (same_tables names ps qs are also)) second))
+
+    -- each answer after them is one on their tables
+    pub after_parts : (names : List (List ℕ)) (parts : List PartialRows) (rest : List PartialRelation → Allowed)
+        (response : ResponseValue) → ArePartFiles known s names parts
+        → WithParts known s names (λ others. rest (tables_of others)) response → rest (tables_of parts) response
+    after_parts names parts rest response are (inl stops) = absurd (parts_go names parts response are stops)
+    after_parts names parts rest response are (inr (others, also, found)) =
+        subst (λ (tables : List PartialRelation). rest tables response) (same_tables names others parts also are) found

@@ -7,16 +7,16 @@ use Rattle.attr_sets.specs.Attributes.{Attributes, difference, only}
 use Rattle.attr_sets.proofs.AttributesLemmas.{same_truth}
 use Rattle.csv_text.specs.Rows.{csv_row, rows_text}
 use Rattle.dep_model.specs.Dependencies.{Dependency, fd, mvd}
-use Rattle.dep_model.specs.Schemas.{names_of, theory_of, width_of}
+use Rattle.schema_model.specs.Schemas.{names_of, theory_of, width_of}
 use Rattle.dep_model.specs.Tuples.{Tuple, Relation}
-use Rattle.dep_model.specs.declared.schema.Schema.{Schema}
+use Rattle.schema_model.specs.Schemas.{Schema}
+use Rattle.schema_model.proofs.SchemaLemmas.{same_schema}
 use Rattle.legality.specs.Parts.{flag_at}
 use Rattle.removal_laws.specs.Removals.{rows_at}
 use Rattle.row_measures.proofs.LawLemmas.{same_measure, same_parts, same_rows, same_kept}
 use Rattle.row_measures.specs.declared.breach.BrokenPart.{BrokenPart}
 use Rattle.row_measures.specs.declared.breach.BrokenRow.{BrokenRow}
 use Rattle.row_measures.specs.declared.breach.Measure.{Measure}
-use Rattle.alike_laws.specs.SameDeclarations.{DeclareTheSame}
 use Rattle.implication_laws.specs.OneAnswer.{AllowsOne}
 use Rattle.implication_laws.proofs.OneAnswer.{one_mvd, not_functional}
 use Rattle.implication_laws.proofs.StepLaws.{same_says}
@@ -148,13 +148,8 @@ one_kept s rows one other (inr (dep, is, says)) (inr (number, also, said)) =
     same_says Refused _ _ one other says said (ap (multivalued_text s) (one_mvd (theory_of s) dep number is also))
 
 -- ---- rows that are read without types
-pub texts_declare_the_same : (s one other : Schema) → HasTextsAlone s one → HasTextsAlone s other
-    → DeclareTheSame one other
-texts_declare_the_same s one other first second = record {
-  naming = first.naming ∙ sym second.naming;
-  names = first.names ∙ sym second.names;
-  types = first.types ∙ sym second.types;
-  nullable = first.nullable ∙ sym second.nullable;
-  theory = first.theory ∙ sym second.theory;
-  lines = first.lines ∙ sym second.lines;
-}
+pub one_of_texts : (s one other : Schema) → HasTextsAlone s one → HasTextsAlone s other → one ≡ other
+one_of_texts s one other first second =
+    same_schema one other (first.naming ∙ sym second.naming) (first.names ∙ sym second.names)
+    (first.types ∙ sym second.types) (first.nullable ∙ sym second.nullable) (first.theory ∙ sym second.theory)
+    (first.lines ∙ sym second.lines)

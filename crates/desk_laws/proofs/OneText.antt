@@ -9,17 +9,17 @@ use Rattle.csv_rows.specs.Quotes.{open_record}
 use Rattle.csv_rows.specs.Records.{records_of}
 use Rattle.csv_rows.specs.declared.part.PartialRows.{PartialRows}
 use Rattle.csv_rows.specs.declared.refusal.RowRefusal.{RowRefusal}
-use Rattle.dep_model.specs.Schemas.{names_of, width_of, naming_of, theory_of}
+use Rattle.schema_model.specs.Schemas.{names_of, width_of, naming_of, theory_of}
 use Rattle.dep_model.specs.Tuples.{Relation}
-use Rattle.dep_model.specs.declared.schema.Schema.{Schema}
+use Rattle.schema_model.specs.Schemas.{Schema}
+use Rattle.schema_model.proofs.SchemaLemmas.{same_schema}
 use Rattle.derivation.proofs.RuleTableLemmas.{the_ok}
 use Rattle.derivation_grammar.proofs.TextLaws.{reading_law, refusal_law}
 use Rattle.derivation_grammar.specs.Derivations.{Derives}
 use Rattle.derivation_grammar.specs.Refusals.{IsRefusedDerivation}
 use Rattle.derivation_grammar.specs.Texts.{read_derivation}
-use Rattle.headed_rows.proofs.UniqueHeaded.{names_same, rows_same, refused_same, never_both}
-use Rattle.headed_rows.specs.Headings.{IsHeadedWithin, IsRefusedWithin, names_under, rows_under}
-use Rattle.headed_rows.specs.declared.headed_rows.Headed.{Headed}
+use Rattle.headed_rows.proofs.UniqueHeaded.{headed_same, refused_same, never_both}
+use Rattle.headed_rows.specs.Headings.{HeadedRows, IsHeadedWithin, IsRefusedWithin}
 use Rattle.headed_rows.specs.declared.headed_rows.Limits.{Limits}
 use Rattle.plan_grammar.proofs.ExactLaws.{plan_one_meaning, plan_one_refusal, plan_never_both}
 use Rattle.plan_grammar.specs.Diagnostics.{RefusesPlan}
@@ -32,14 +32,15 @@ use Rattle.proof_grammar.specs.Texts.{read_proof}
 use Rattle.schema_grammar.proofs.OneTextRefusal.{schema-refusal-law}
 use Rattle.schema_grammar.proofs.SchemaLaws.{schema-law}
 use Rattle.schema_grammar.specs.Schemas.{MeansSchema, RefusesSchema}
-use Rattle.schema_grammar.specs.Texts.{read_text}
+use Rattle.schema_grammar.specs.Declarations.{Declarations}
+use Rattle.schema_grammar.specs.Texts.{declarations_of, read_text}
 use Rattle.table_join.specs.Tables.{PartialRelation, table_of_part}
 use Rattle.plan_printer.specs.NamedPlans.{NamedSchemes}
 use Rattle.design_order.specs.Order.{AreNamesInOrder}
 use Rattle.design_order.proofs.OrderLemmas.{one_names}
 use Rattle.desk_inputs.specs.Plans.{MeansTables}
 use Rattle.desk_laws.specs.OneReading.{HasOneReading}
-use Rattle.dep_model.specs.declared.naming.Naming.{Naming}
+use Rattle.schema_model.specs.declared.naming.Naming.{Naming}
 
 -- ---- one reading of each text
 one_error : {A E : Type 0} (e f : E) → ◌≡◌ {A = Result A E} (Err e) (Err f) → e ≡ f
@@ -60,6 +61,22 @@ pub schema_text_once : (text : List ℕ) → HasOneReading (MeansSchema text) (R
 schema_text_once text =
     read_once (read_text text) (MeansSchema text) (RefusesSchema text) (λ d means. (schema-law text d).1 means)
     (λ e refused. (schema-refusal-law text e).1 refused)
+
+-- two schemas that declare the same are one
+pub same_declared : (s t : Schema) → declarations_of s ≡ declarations_of t → s ≡ t
+same_declared s t same =
+    same_schema s t (ap (λ (d : Declarations). d.naming) same) (ap (λ (d : Declarations). d.names) same)
+    (ap (λ (d : Declarations). d.columns) same) (ap (λ (d : Declarations). d.nullable) same)
+    (ap (λ (d : Declarations). d.deps) same) (ap (λ (d : Declarations). d.lines) same)
+
+-- so a text means one schema
+pub schema_once : (text : List ℕ) → HasOneReading (λ (s : Schema). MeansSchema text (declarations_of s)) (RefusesSchema text)
+schema_once text = record {
+  one_meaning = λ s t first second.
+      same_declared s t ((schema_text_once text).one_meaning (declarations_of s) (declarations_of t) first second);
+  one_refusal = (schema_text_once text).one_refusal;
+  never_both = λ s why means refused. (schema_text_once text).never_both (declarations_of s) why means refused;
+}
 
 pub proof_text_once : (s : Schema) (text : List ℕ) → HasOneReading (SpellsWithin s text) (IsRefusedCertificate s text)
 proof_text_once s text =
@@ -128,25 +145,12 @@ pub rows_text_once : (s : Schema) (text : List ℕ)
 rows_text_once s text = one_result (RowsOf s text) (one_rows s text)
 
 -- ---- rows under a header of their own
-abbrev pub names_and_rows : Headed → List (List ℕ) × Relation
-names_and_rows headed = (names_under headed, rows_under headed)
-
-abbrev pub MeansNamesAndRows : Limits → List ℕ → List (List ℕ) × Relation → Type 0
-MeansNamesAndRows limits text read =
-    (headed : Headed) × IsHeadedWithin limits text headed × (names_and_rows headed ≡ read)
-
 pub headed_text_once : (limits : Limits) (text : List ℕ)
-    → HasOneReading (MeansNamesAndRows limits text) (IsRefusedWithin limits text)
+    → HasOneReading (IsHeadedWithin limits text) (IsRefusedWithin limits text)
 headed_text_once limits text = record {
-  one_meaning = λ read other first second.
-      sym first.2
-      ∙ ap (λ (names : List (List ℕ)). (names, rows_under first.0))
-      (names_same limits text first.0 second.0 first.1 second.1)
-      ∙ ap (λ (rows : Relation). (names_under second.0, rows))
-      (rows_same limits text first.0 second.0 first.1 second.1)
-      ∙ second.2;
+  one_meaning = headed_same limits text;
   one_refusal = refused_same limits text;
-  never_both = λ read why first refused. never_both limits text first.0 why first.1 refused;
+  never_both = never_both limits text;
 }
 
 -- ---- rows over some columns

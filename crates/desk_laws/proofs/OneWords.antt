@@ -1,103 +1,37 @@
 -- Words have one answer over known files, but for the derivation of a goal that is implied, for a page and for the
 -- refusal of a search for rules.
-use Rattle.std.proofs.Common.{◌≡◌, ◌≤◌, ◌<◌, ◌⊎◌, ℕ, List, length, Some, None, Option, refl, sym, ap, subst, ◌∙◌, inl, inr, arith}
-use Rattle.std.specs.Prelude.{codes, MatchOption}
-use Rattle.attr_sets.specs.Attributes.{Attributes}
-use Rattle.candidate_search.specs.Sides.{IsTooManyLeftSides}
-use Rattle.candidate_search.specs.declared.side.TooManyLeftSides.{TooManyLeftSides}
-use Rattle.dep_model.specs.Dependencies.{Dependency}
-use Rattle.dep_model.specs.Tuples.{Relation}
-use Rattle.dep_model.specs.declared.schema.Schema.{Schema}
+use Rattle.std.proofs.Common.{◌≡◌, ◌≤◌, ◌⊎◌, ℕ, List, Some, None, Option, refl, sym, ap, ◌∙◌, inl, inr, arith}
+use Rattle.std.specs.Prelude.{MatchOption}
+use Rattle.schema_model.specs.Schemas.{Schema}
 use Rattle.desk_outside.specs.Files.{Files}
-use Rattle.headed_rows.specs.Headings.{discovered, names_under}
-use Rattle.headed_rows.specs.declared.headed_rows.Headed.{Headed}
-use Rattle.fd_search.specs.Small.{AreAllSmall}
-use Rattle.near_rules.specs.NearRules.{AreNearRules, IsFirstExceeded, IsTriedWhole}
-use Rattle.near_rules.specs.declared.found.TooManyTried.{TooManyTried}
-use Rattle.fd_search.specs.Keys.{AreRowKeys, HasTooManyKeys}
+use Rattle.headed_rows.specs.Headings.{HeadedRows, discovered}
 use Rattle.sample_rows.specs.declared.rows.TheConstants.{MOST_PERSONS}
 use Rattle.implication_laws.proofs.OneAnswer.{one_near_answer, one_row_keys_answer, one_rules_answer, one_small_answer, one_whole_answer}
 use Rattle.plan_laws.proofs.SampleAnswers.{one_sampled}
 use Rattle.desk_cli.specs.Performs.{Answers, AnswersRules, Does, Performs}
-use Rattle.desk_discovery.specs.Discoveries.{AreRulesOf, RefusesRules, found_text, left_sides_text}
-use Rattle.desk_discovery.specs.AllDiscoveries.{AreAllRulesOf, FindsAllRules}
-use Rattle.desk_discovery.specs.NearDiscoveries.{near_text}
-use Rattle.desk_discovery.specs.KeyDiscoveries.{row_keys_text, too_many_row_keys_text}
-use Rattle.desk_discovery.specs.declared.discovering.TheConstants.{WIDEST_TRIED}
+use Rattle.desk_discovery.specs.AllDiscoveries.{FindsAllRules}
 use Rattle.desk_inputs.specs.FileKinds.{IsFile}
 use Rattle.desk_imports.proofs.LawLemmas.{import_once}
 use Rattle.desk_imports.specs.Columns.{ImportsColumns}
-use Rattle.desk_inputs.specs.Headed.{headed_file, imported, wholly_discovered}
+use Rattle.desk_inputs.specs.Headed.{headed_file, imported, imported_file, whole_file, wholly_discovered}
 use Rattle.desk_inputs.specs.Inputs.{schema_file}
 use Rattle.desk_inputs.specs.Readings.{known_files}
 use Rattle.desk_laws.proofs.ImportLaws.{one_import_of_sql}
-use Rattle.desk_laws.proofs.OneInput.{after_headed}
-use Rattle.desk_laws.proofs.OneTask.{after_schema, one_task}
-use Rattle.desk_laws.proofs.OneText.{names_and_rows}
+use Rattle.desk_laws.proofs.OneFile.{one_after_file, two_after_file}
+use Rattle.desk_laws.proofs.OneTask.{one_task}
+use Rattle.desk_laws.proofs.OneText.{headed_text_once, schema_once}
 use Rattle.desk_laws.proofs.SampleWords.{sample_within}
 use Rattle.desk_tables.specs.OwnFolders.{HasOneLook, Looks}
 use Rattle.desk_laws.specs.OneReading.{AskForAPage, AskForRules, AskWhatIsDerived, BothDerive, BothReport, IsOneButForProof, RefusesSearch}
-use Rattle.desk_responses.specs.ResponseValues.{Allowed, ResponseValue, Says}
-use Rattle.desk_responses.specs.declared.status.Status.TheVariants.{Yes, Refused}
+use Rattle.desk_responses.specs.ResponseValues.{ResponseValue, Says}
+use Rattle.desk_responses.specs.declared.status.Status.TheVariants.{Refused}
 use Rattle.desk_words.specs.Forms as form
 use Rattle.desk_texts.specs.Texts.{unknown_words_text}
 use Rattle.desk_words.specs.Forms.{CommandForm, RulesQuestion, Task, form_of}
 
 -- ---- rules of rows
--- what is said of names and rows alone
-abbrev rules_given : List (List ℕ) × Relation → Allowed
-rules_given read response =
-    (ds : List Dependency) × AreRulesOf (length read.0) read.1 ds × Says Yes (found_text read.0 ds) response
-
-abbrev small_rules_given : ℕ → List (List ℕ) × Relation → Allowed
-small_rules_given most read response =
-    (ds : List Dependency) × AreAllSmall (length read.0) most read.1 ds × Says Yes (found_text read.0 ds) response
-
-abbrev rules_refused : ℕ → List ℕ → List (List ℕ) × Relation → Allowed
-rules_refused most file read response =
-    (refusal : TooManyLeftSides) × (WIDEST_TRIED < length read.0)
-    × IsTooManyLeftSides (length read.0) most read.1 refusal
-    × Says Refused (left_sides_text file read.0 refusal.right) response
-
-abbrev row_keys_found : List ℕ → List (List ℕ) × Relation → Allowed
-row_keys_found file read response =
-    ((keys : List Attributes) × AreRowKeys (length read.0) read.1 keys × Says Yes (row_keys_text read.0 keys) response)
-    ⊎ (HasTooManyKeys (length read.0) read.1 × Says Refused (too_many_row_keys_text file) response)
-
-abbrev near_found : ℕ → ℕ → List ℕ → List (List ℕ) × Relation → Allowed
-near_found limit most file read response =
-    ((ds : List Dependency) × (errors : List ℕ) × AreNearRules (length read.0) most limit read.1 ds errors
-    × IsTriedWhole (length read.0) most limit read.1 × Says Yes (near_text read.0 ds errors) response)
-    ⊎ ((refusal : TooManyTried) × IsFirstExceeded (length read.0) most limit read.1 refusal
-    × Says Refused (left_sides_text file read.0 refusal.right) response)
-
-refused_there : (most : ℕ) (file : List ℕ) (h k : Headed) (response : ResponseValue) → names_and_rows h ≡ names_and_rows k
-    → RefusesRules most file h response → RefusesRules most file k response
-refused_there most file h k response same (refusal, many, says) =
-    let moved = subst (λ (read : List (List ℕ) × Relation). rules_refused most file read response) same
-    (refusal, many.wide, many.exceeded, says) in
-    (moved.0, record { wide = moved.1; exceeded = moved.2 }, moved.3)
-
-found_there : (question : RulesQuestion) (file : List ℕ) (h k : Headed) (response : ResponseValue)
-    → names_and_rows h ≡ names_and_rows k → AnswersRules question file h response → AnswersRules question file k response
-unfolding AnswersRules
-found_there form.minimal_rules file h k response same (inl given) =
-    inl (subst (λ (read : List (List ℕ) × Relation). rules_given read response) same given)
-found_there form.minimal_rules file h k response same (inr refused) =
-    inr (subst (λ (n : ℕ). RefusesRules n file k response)
-    (ap (λ (read : List (List ℕ) × Relation). length read.0) same)
-    (refused_there (length (names_under h)) file h k response same refused))
-found_there (form.small_rules most) file h k response same (inl given) =
-    inl (subst (λ (read : List (List ℕ) × Relation). small_rules_given most read response) same given)
-found_there (form.small_rules most) file h k response same (inr refused) =
-    inr (refused_there most file h k response same refused)
-found_there form.keys_of_rows file h k response same found =
-    subst (λ (read : List (List ℕ) × Relation). row_keys_found file read response) same found
-found_there (form.near_rules limit most) file h k response same found =
-    subst (λ (read : List (List ℕ) × Relation). near_found limit most file read response) same found
-
--- two answers over one reading
-one_of_rules : (question : RulesQuestion) (file : List ℕ) (k : Headed) (one other : ResponseValue)
+-- two answers over one file
+one_of_rules : (question : RulesQuestion) (file : List ℕ) (k : HeadedRows) (one other : ResponseValue)
     → AnswersRules question file k one → AnswersRules question file k other
     → (one ≡ other) ⊎ (RefusesSearch question file k one ⊎ RefusesSearch question file k other)
 unfolding AnswersRules
@@ -116,7 +50,7 @@ IsDerived files command one other =
 -- the rules of a file's rows are asked for, and one answer is the refusal of a column
 abbrev IsRefusedSearch : Files → CommandForm → ResponseValue → ResponseValue → Type 0
 IsRefusedSearch files command one other =
-    (file : List ℕ) × (question : RulesQuestion) × (headed : Headed) × (command ≡ form.discover question file)
+    (file : List ℕ) × (question : RulesQuestion) × (headed : HeadedRows) × (command ≡ form.discover question file)
     × IsFile headed_file (known_files files) file headed
     × (RefusesSearch question file headed one ⊎ RefusesSearch question file headed other)
 
@@ -129,13 +63,6 @@ abbrev IsFree : Files → CommandForm → ResponseValue → ResponseValue → Ty
 IsFree files command one other =
     IsDerived files command one other ⊎ (IsRefusedSearch files command one other ⊎ IsPaged command one other)
 
--- all that holds of equal names and rows
-all_there : (h k : Headed) (response : ResponseValue) → names_and_rows h ≡ names_and_rows k → FindsAllRules h response
-    → FindsAllRules k response
-all_there h k response same found =
-    subst (λ (read : List (List ℕ) × Relation). (ds : List Dependency) × AreAllRulesOf (length read.0) read.1 ds
-    × Says Yes (found_text read.0 ds) response) same found
-
 after_one_task : (files : Files) (file : List ℕ) (task : Task) (s : Schema) (one other : ResponseValue)
     → IsFile schema_file (known_files files) file s → IsOneButForProof s task one other
     → (one ≡ other) ⊎ IsFree files (form.over_schema file task) one other
@@ -143,7 +70,7 @@ after_one_task files file task s one other is (inl same) = inl same
 after_one_task files file task s one other is (inr (inl derive)) = inr (inl (file, task, s, refl, is, derive))
 after_one_task files file task s one other is (inr (inr report)) = inr (inr (inr (file, task, refl, report)))
 
-after_rules : (files : Files) (question : RulesQuestion) (file : List ℕ) (k : Headed) (one other : ResponseValue)
+after_rules : (files : Files) (question : RulesQuestion) (file : List ℕ) (k : HeadedRows) (one other : ResponseValue)
     → IsFile headed_file (known_files files) file k
     → (one ≡ other) ⊎ (RefusesSearch question file k one ⊎ RefusesSearch question file k other)
     → (one ≡ other) ⊎ IsFree files (form.discover question file) one other
@@ -156,28 +83,25 @@ one_command : (looks : Looks) (files : Files) (command : CommandForm) (one other
     → Performs looks (known_files files) command other → (one ≡ other) ⊎ IsFree files command one other
 unfolding Performs
 one_command looks files (form.over_schema file task) one other single few_persons first second =
-    after_schema files file (λ one other. (one ≡ other) ⊎ IsFree files (form.over_schema file task) one other)
-    (λ s. Does looks (known_files files) s task) (λ s. Does looks (known_files files) s task) (λ one other path. inl path)
-    (λ s t one other is same first second.
-    after_one_task files file task s one other is (one_task looks files s t task one other single same first second))
+    two_after_file files file schema_file schema_once
+    (λ one other. (one ≡ other) ⊎ IsFree files (form.over_schema file task) one other)
+    (λ s. Does looks (known_files files) s task) (λ one other same. inl same)
+    (λ s one other is first second.
+    after_one_task files file task s one other is (one_task looks files s task one other single first second))
     one other first second
 one_command looks files (form.discover question file) one other single few_persons first second =
-    after_headed files (codes "discover") discovered file (λ one other. (one ≡ other) ⊎ IsFree files (form.discover question file) one other)
-    (AnswersRules question file) (λ one other path. inl path)
-    (λ h k a b is same found also.
-    after_rules files question file k a b is
-    (one_of_rules question file k a b (found_there question file h k a same found) also))
+    two_after_file files file headed_file (headed_text_once discovered)
+    (λ one other. (one ≡ other) ⊎ IsFree files (form.discover question file) one other)
+    (AnswersRules question file) (λ one other same. inl same)
+    (λ headed one other is first second.
+    after_rules files question file headed one other is (one_of_rules question file headed one other first second))
     one other first second
 one_command looks files (form.discover_all file) one other single few_persons first second =
-    inl (after_headed files (codes "discover") wholly_discovered file (λ one other. one ≡ other) FindsAllRules (λ one other path. path)
-    (λ h k a b is same found also.
-    one_whole_answer k a b (all_there h k a same found) also)
-    one other first second)
+    inl (one_after_file files file whole_file (headed_text_once wholly_discovered) FindsAllRules
+    (λ headed is. one_whole_answer headed) one other first second)
 one_command looks files (form.import_csv file) one other single few_persons first second =
-    inl (after_headed files (codes "import") imported file (λ one other. one ≡ other) ImportsColumns (λ one other path. path)
-    (λ h k a b is same found also.
-    import_once h k a b (ap (λ (read : List (List ℕ) × Relation). read.0) same) (ap (λ (read : List (List ℕ) × Relation). read.1) same) found also)
-    one other first second)
+    inl (one_after_file files file imported_file (headed_text_once imported) ImportsColumns
+    (λ headed is. import_once headed) one other first second)
 one_command looks files (form.import_sql dialect file table) one other single few_persons first second =
     inl (one_import_of_sql files dialect file table one other first second)
 one_command looks files (form.sample persons) one other single few_persons first second =

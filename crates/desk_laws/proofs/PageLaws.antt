@@ -2,7 +2,7 @@
 use Rattle.std.proofs.Common.{◌≡◌, ℕ, List, [], ◌∷◌, Result, Ok, ap, ◌∙◌}
 use Rattle.std.specs.Prelude.{codes}
 use Rattle.dep_model.specs.declared.memory.OutOfMemory.{OutOfMemory}
-use Rattle.dep_model.specs.declared.schema.Schema.{Schema}
+use Rattle.schema_model.specs.Schemas.{Schema}
 use Rattle.plan_printer.specs.NamedPlans.{NamedSchemes}
 use Rattle.desk_outside.specs.Files.{Files}
 use Rattle.desk_responses.specs.ResponseValues.{ResponseValue}
@@ -19,7 +19,7 @@ use Rattle.desk_cli.specs.Performs.{Answers, Does, Performs}
 use Rattle.desk_delivery.specs.Outcomes.{DestinationsInCall, OwnInCall}
 use Rattle.desk_tables.specs.OwnFolders.{Looks}
 use Rattle.desk_laws.specs.Completeness.{FailsNowhere, IsAnsweredYes}
-use Rattle.desk_laws.proofs.CompleteLaws.{on_plan, on_schema}
+use Rattle.desk_laws.proofs.CompleteLaws.{after_plan, after_schema}
 
 pub yes_calls_end : (words : List (List ℕ)) (looks : Looks) (files : Files) (source : FileSourceInCall)
     (sink notices : SinkInCall) (destinations : DestinationsInCall) (own : OwnInCall) (result : Result Status OutOfMemory)
@@ -48,8 +48,8 @@ schema_page_asks files name looks response answered = answered
 pub schema_page_answered : (files : Files) (name : List ℕ) (schema : Schema)
     → IsFile schema_file (known_files files) name schema → IsAnsweredYes files (codes "report" ∷ name ∷ [])
 schema_page_answered files name schema file looks response answered =
-    on_schema (λ (a : ResponseValue). a.status ≡ Yes) files name schema (ReportsSchema name) response file
-    (λ r same page. page_says_yes name r response page) (schema_page_asks files name looks response answered)
+    page_says_yes name schema response
+    (after_schema files name schema (ReportsSchema name) response file (schema_page_asks files name looks response answered))
 
 plan_page_asks : (files : Files) (name file : List ℕ) (looks : Looks) (response : ResponseValue)
     → Answers looks (known_files files) (codes "report" ∷ name ∷ file ∷ []) response
@@ -62,8 +62,8 @@ pub plan_page_answered : (files : Files) (name file : List ℕ) (schema : Schema
     → IsFile schema_file (known_files files) name schema → IsFile (plan_file schema) (known_files files) file plan
     → IsAnsweredYes files (codes "report" ∷ name ∷ file ∷ [])
 plan_page_answered files name file schema plan held_schema held_plan looks response answered =
-    on_schema (λ (a : ResponseValue). a.status ≡ Yes) files name schema
+    plan_page_says_yes name file schema plan response
+    (after_plan files schema file plan (ReportsPlan name file schema) response held_plan
+    (after_schema files name schema
     (λ r. WithFile (plan_file r) (known_files files) file (ReportsPlan name file r)) response held_schema
-    (λ r same more. on_plan (λ (a : ResponseValue). a.status ≡ Yes) files schema r file plan (ReportsPlan name file r)
-    response same held_plan (λ p is page. plan_page_says_yes name file r p response page) more)
-    (plan_page_asks files name file looks response answered)
+    (plan_page_asks files name file looks response answered)))

@@ -1,7 +1,7 @@
 -- Where the schema file means a schema, and the command itself is answered, it is explained.
 use Rattle.std.proofs.Common.{ℕ, List, [], ◌∷◌, inl, inr, ap, sym, subst, ◌∙◌}
 use Rattle.std.specs.Prelude.{codes}
-use Rattle.dep_model.specs.declared.schema.Schema.{Schema}
+use Rattle.schema_model.specs.Schemas.{Schema, theory_in}
 use Rattle.key_listing.specs.Refusals.{IsTooWide}
 use Rattle.desk_cli.specs.Performs.{Answers, Performs, Does, AnswersSchema}
 use Rattle.desk_covers.specs.CoverReasons.{AreCoverReasons, ExplainsCover}
@@ -23,7 +23,7 @@ use Rattle.dep_model.specs.declared.form.Form.TheVariants.{Bcnf, Fourth}
 use Rattle.desk_responses.specs.declared.status.Status.{Status}
 use Rattle.desk_words.specs.Forms.{form_of, form_over_schema, after_explain, after_explain_split, schema_alone}
 use Rattle.desk_laws.specs.Completeness.{IsYesOrNo, IsAnswered, HasPlanInForm}
-use Rattle.desk_laws.proofs.CompleteLaws.{AreSame, after_schema, narrow_same, not_many_same, lists_keys}
+use Rattle.desk_laws.proofs.CompleteLaws.{after_schema, lists_keys}
 use Rattle.desk_laws.proofs.TableLaws.{after_form}
 use Rattle.desk_tables.specs.OwnFolders.{Looks}
 
@@ -44,10 +44,9 @@ cover_asks files name looks response answered = answered
 pub cover_explained : (files : Files) (name : List ℕ) (schema : Schema) → IsFile schema_file (known_files files) name schema
     → IsAnswered files (codes "explain" ∷ codes "cover" ∷ name ∷ [])
 cover_explained files name schema file looks response answered =
-    after_schema files name schema ExplainsCover response file
-    (λ r same found. Explained-yes_or_no (AreCoverReasons r) (GivesCover r) response
-    (λ plain is. inl (ap (λ (a : ResponseValue). a.status) is.4)) found)
-    (cover_asks files name looks response answered)
+    Explained-yes_or_no (AreCoverReasons schema) (GivesCover schema) response
+    (λ plain is. inl (ap (λ (a : ResponseValue). a.status) is.4))
+    (after_schema files name schema ExplainsCover response file (cover_asks files name looks response answered))
 
 keys_asks : (files : Files) (name : List ℕ) (looks : Looks) (response : ResponseValue)
     → Answers looks (known_files files) (codes "explain" ∷ codes "keys" ∷ name ∷ []) response
@@ -56,13 +55,12 @@ unfolding form_of form_over_schema after_explain schema_alone Performs Does Answ
 keys_asks files name looks response answered = answered
 
 pub keys_explained : (files : Files) (name : List ℕ) (schema : Schema) → IsFile schema_file (known_files files) name schema
-    → (IsTooWide schema → ⊥) → (HasManyKeys schema → ⊥)
+    → (IsTooWide (theory_in schema) → ⊥) → (HasManyKeys schema → ⊥)
     → IsAnswered files (codes "explain" ∷ codes "keys" ∷ name ∷ [])
 keys_explained files name schema file narrow within_limit looks response answered =
-    after_schema files name schema ExplainsKeys response file
-    (λ r same found. Explained-yes_or_no (AreKeyReasons r) (ListsKeys r) response
-    (λ plain is. lists_keys r plain (narrow_same schema r same narrow) (not_many_same schema r same within_limit) is) found)
-    (keys_asks files name looks response answered)
+    Explained-yes_or_no (AreKeyReasons schema) (ListsKeys schema) response
+    (λ plain is. lists_keys schema plain narrow within_limit is)
+    (after_schema files name schema ExplainsKeys response file (keys_asks files name looks response answered))
 
 synthesis_asks : (files : Files) (name : List ℕ) (looks : Looks) (response : ResponseValue)
     → Answers looks (known_files files) (codes "explain" ∷ codes "synthesize" ∷ name ∷ []) response
@@ -74,20 +72,18 @@ pub synthesis_explained : (files : Files) (name : List ℕ) (schema : Schema)
     → IsFile schema_file (known_files files) name schema
     → IsAnswered files (codes "explain" ∷ codes "synthesize" ∷ name ∷ [])
 synthesis_explained files name schema file looks response answered =
-    after_schema files name schema ExplainsSynthesis response file
-    (λ r same found. Explained-yes_or_no (AreSynthesisReasons r) (Synthesizes r) response
-    (λ plain is. inl (ap (λ (a : ResponseValue). a.status) is.2)) found)
-    (synthesis_asks files name looks response answered)
+    Explained-yes_or_no (AreSynthesisReasons schema) (Synthesizes schema) response
+    (λ plain is. inl (ap (λ (a : ResponseValue). a.status) is.2))
+    (after_schema files name schema ExplainsSynthesis response file (synthesis_asks files name looks response answered))
 
 -- a split of a form below how it comes about, where splitting meets no limit
-cuts_said : (r schema : Schema) (form : Form) (response : ResponseValue) → AreSame schema r
-    → HasPlanInForm schema form
-    → ((response : ResponseValue) → With (SplitStops r form) (IsSplitInForm r form) (ShowsPlan r) response
-    → WithPlanInForm r form (ShowsPlan r) response)
-    → ExplainsCuts r form response → IsYesOrNo response.status
-cuts_said r schema form response same can splits found =
-    Explained-yes_or_no (AreSplitReasons r form) (With (SplitStops r form) (IsSplitInForm r form) (ShowsPlan r)) response
-    (λ plain is. after_form schema r form (ShowsPlan r) plain same can
+cuts_said : (s : Schema) (form : Form) (response : ResponseValue) → HasPlanInForm s form
+    → ((response : ResponseValue) → With (SplitStops s form) (IsSplitInForm s form) (ShowsPlan s) response
+    → WithPlanInForm s form (ShowsPlan s) response)
+    → ExplainsCuts s form response → IsYesOrNo response.status
+cuts_said s form response can splits found =
+    Explained-yes_or_no (AreSplitReasons s form) (With (SplitStops s form) (IsSplitInForm s form) (ShowsPlan s)) response
+    (λ plain is. after_form s form (ShowsPlan s) plain can
     (λ plan says. inl (ap (λ (a : ResponseValue). a.status) says)) (splits plain is)) found
 
 bcnf_asks : (files : Files) (name : List ℕ) (looks : Looks) (response : ResponseValue)
@@ -100,9 +96,8 @@ pub bcnf_explained : (files : Files) (name : List ℕ) (schema : Schema)
     → IsFile schema_file (known_files files) name schema → HasPlanInForm schema Bcnf
     → IsAnswered files (codes "explain" ∷ codes "split" ∷ codes "bcnf" ∷ name ∷ [])
 bcnf_explained files name schema file can looks response answered =
-    after_schema files name schema (λ r. ExplainsCuts r Bcnf) response file
-    (λ r same found. cuts_said r schema Bcnf response same can (λ plain is. is) found)
-    (bcnf_asks files name looks response answered)
+    cuts_said schema Bcnf response can (λ plain is. is)
+    (after_schema files name schema (λ r. ExplainsCuts r Bcnf) response file (bcnf_asks files name looks response answered))
 
 fourth_asks : (files : Files) (name : List ℕ) (looks : Looks) (response : ResponseValue)
     → Answers looks (known_files files) (codes "explain" ∷ codes "split" ∷ codes "4nf" ∷ name ∷ []) response
@@ -114,6 +109,5 @@ pub fourth_explained : (files : Files) (name : List ℕ) (schema : Schema)
     → IsFile schema_file (known_files files) name schema → HasPlanInForm schema Fourth
     → IsAnswered files (codes "explain" ∷ codes "split" ∷ codes "4nf" ∷ name ∷ [])
 fourth_explained files name schema file can looks response answered =
-    after_schema files name schema (λ r. ExplainsCuts r Fourth) response file
-    (λ r same found. cuts_said r schema Fourth response same can (λ plain is. is) found)
-    (fourth_asks files name looks response answered)
+    cuts_said schema Fourth response can (λ plain is. is)
+    (after_schema files name schema (λ r. ExplainsCuts r Fourth) response file (fourth_asks files name looks response answered))

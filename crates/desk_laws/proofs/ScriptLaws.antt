@@ -1,9 +1,9 @@
 -- Where the inputs of the commands that print scripts and pictures have their meaning, they answer yes or no.
-use Rattle.std.proofs.Common.{ℕ, List, [], ◌∷◌, inl, inr, ap, ◌≡◌, None, Some, sym, subst, ◌∙◌}
+use Rattle.std.proofs.Common.{ℕ, List, [], ◌∷◌, inl, inr, ap, ◌≡◌, None, Some, sym, ◌∙◌}
 use Rattle.std.specs.Prelude.{codes, IsTrue}
 use Rattle.attr_sets.specs.declared.set.AttrSet.{AttrSet}
 use Rattle.dep_model.specs.Plans.{schemes_of}
-use Rattle.dep_model.specs.declared.schema.Schema.{Schema}
+use Rattle.schema_model.specs.Schemas.{Schema}
 use Rattle.dep_model.specs.declared.form.Form.{Form}
 use Rattle.dep_model.specs.declared.form.Form.TheVariants.{Third, Bcnf, Fourth}
 use Rattle.table_names.specs.TableNames.{GivenNames}
@@ -57,9 +57,9 @@ sql_check_asks files name table looks response answered = answered
 pub sql_check_answered : (files : Files) (name table : List ℕ) (schema : Schema) → IsFile schema_file (known_files files) name schema
     → IsTrue (is_table_name table) → IsAnswered files (codes "sql" ∷ codes "check" ∷ name ∷ table ∷ [])
 sql_check_answered files name table schema file is looks response answered =
-    after_schema files name schema (λ r. WithTableName table (AsksTable r table)) response file
-    (λ r same more. after_name table (AsksTable r table) response is (λ found. inl (ap (λ (a : ResponseValue). a.status) found.1)) more)
-    (sql_check_asks files name table looks response answered)
+    after_name table (AsksTable schema table) response is (λ found. inl (ap (λ (a : ResponseValue). a.status) found.1))
+    (after_schema files name schema (λ r. WithTableName table (AsksTable r table)) response file
+    (sql_check_asks files name table looks response answered))
 
 -- ---- `sql migrate`
 -- the script of a plan, where no value is missing in its tables where it must not be
@@ -79,12 +79,12 @@ pub sql_migrate_answered : (form : Form) (files : Files) (name table : List ℕ)
     → RequiresAll schema → HasPlanInForm schema form
     → IsAnswered files (codes "sql" ∷ codes "migrate" ∷ form_word form ∷ name ∷ table ∷ [])
 sql_migrate_answered form files name table schema file is none can looks response answered =
-    after_schema files name schema (λ r. WithTableName table (WithPlanInForm r form (MakesRequired table r))) response file
-    (λ r same more. after_name table (WithPlanInForm r form (MakesRequired table r)) response is
-    (λ found. after_form schema r form (MakesRequired table r) response same can
-    (λ plan stands. after_missing schema r [] (schemes_of plan) (MakesTables r [] table plan) response same none
-    (λ makes. MakesTables-yes_or_no r [] table plan response makes) stands) found) more)
-    (sql_migrate_asks form files name table looks response answered)
+    after_name table (WithPlanInForm schema form (MakesRequired table schema)) response is
+    (λ named. after_form schema form (MakesRequired table schema) response can
+    (λ plan found. after_missing schema [] (schemes_of plan) (MakesTables schema [] table plan) response none
+    (MakesTables-yes_or_no schema [] table plan response) found) named)
+    (after_schema files name schema (λ r. WithTableName table (WithPlanInForm r form (MakesRequired table r))) response file
+    (sql_migrate_asks form files name table looks response answered))
 
 sql_plan_asks : (files : Files) (name file table : List ℕ) (looks : Looks) (response : ResponseValue)
     → Answers looks (known_files files) (codes "sql" ∷ codes "migrate" ∷ codes "plan" ∷ name ∷ file ∷ table ∷ []) response
@@ -99,19 +99,17 @@ pub sql_plan_answered : (files : Files) (name file table : List ℕ) (schema : S
     → RequiresAll schema → (IsTooLarge schema plan.schemes → ⊥)
     → IsAnswered files (codes "sql" ∷ codes "migrate" ∷ codes "plan" ∷ name ∷ file ∷ table ∷ [])
 sql_plan_answered files name file table schema plan held_schema held_plan is_name other none small looks response answered =
-    after_schema files name schema
+    let makes = MakesSchemes schema plan.names table plan.schemes in
+    let kept = WithoutMissing schema plan.names plan.schemes (WithoutLoss schema plan.schemes makes) in
+    after_name table (Unless (MetNameStops plan.names table) (met_name plan.names table ≡ None) kept) response is_name
+    (λ named. after_other plan.names table kept response other
+    (λ found. after_missing schema plan.names plan.schemes (WithoutLoss schema plan.schemes makes) response none
+    (λ stands. after_loss schema plan.schemes makes response small
+    (λ made. MakesTables-yes_or_no schema plan.names table made.0 response made.2) stands) found) named)
+    (after_plan files schema file plan (λ p. ScriptsMigrationByPlan schema p.names p.schemes table) response held_plan
+    (after_schema files name schema
     (λ r. WithFile (plan_file r) (known_files files) file (λ p. ScriptsMigrationByPlan r p.names p.schemes table)) response held_schema
-    (λ r same more. after_plan files schema r file plan
-    (λ p. ScriptsMigrationByPlan r p.names p.schemes table) response same held_plan
-    (λ p is found. after_name table
-    (Unless (MetNameStops p.names table) (met_name p.names table ≡ None)
-    (WithoutMissing r p.names p.schemes (WithoutLoss r p.schemes (MakesSchemes r p.names table p.schemes)))) response is_name
-    (λ named. after_other p.names table (WithoutMissing r p.names p.schemes (WithoutLoss r p.schemes (MakesSchemes r p.names table p.schemes))) response
-    (subst (λ (q : NamedSchemes). met_name q.names table ≡ None) (sym is) other)
-    (λ stands. after_missing schema r p.names p.schemes (WithoutLoss r p.schemes (MakesSchemes r p.names table p.schemes)) response same none
-    (λ kept. after_loss schema r p.schemes plan.schemes (MakesSchemes r p.names table p.schemes) response same (ap (λ (q : NamedSchemes). q.schemes) is) small
-    (λ makes. MakesTables-yes_or_no r p.names table makes.0 response makes.2) kept) stands) named) found) more)
-    (sql_plan_asks files name file table looks response answered)
+    (sql_plan_asks files name file table looks response answered)))
 
 -- ---- `draw`
 draw_asks : (form : Form) (files : Files) (name : List ℕ) (looks : Looks) (response : ResponseValue)
@@ -139,7 +137,7 @@ pub draw_plan_answered : (files : Files) (name file : List ℕ) (schema : Schema
     → IsFile schema_file (known_files files) name schema → IsFile (plan_file schema) (known_files files) file plan
     → IsAnswered files (codes "draw" ∷ codes "plan" ∷ name ∷ file ∷ [])
 draw_plan_answered files name file schema plan held_schema held_plan looks response answered =
-    after_schema files name schema (λ r. WithFile (plan_file r) (known_files files) file (λ p. DrawsSchemes r p.names p.schemes)) response held_schema
-    (λ r same more. after_plan files schema r file plan (λ p. DrawsSchemes r p.names p.schemes) response same held_plan
-    (λ p is found. DrawsTables-yes_or_no p.names r found.0 response found.2) more)
-    (draw_plan_asks files name file looks response answered)
+    let found = after_plan files schema file plan (λ p. DrawsSchemes schema p.names p.schemes) response held_plan
+    (after_schema files name schema (λ r. WithFile (plan_file r) (known_files files) file (λ p. DrawsSchemes r p.names p.schemes)) response held_schema
+    (draw_plan_asks files name file looks response answered)) in
+    DrawsTables-yes_or_no plan.names schema found.0 response found.2

@@ -1,5 +1,5 @@
 -- Where the inputs of a command on forms, plans or tables have their meaning, it answers yes or no.
-use Rattle.std.proofs.Common.{◌≡◌, ◌<◌, ◌≤◌, ◌-◌, ◌^◌, ◌⊎◌, ℕ, true, List, [], ◌∷◌, length, inl, inr, sym, ap, refl, subst, ◌∙◌, arith}
+use Rattle.std.proofs.Common.{◌≡◌, ◌<◌, ◌≤◌, ◌-◌, ◌^◌, ◌⊎◌, ℕ, true, List, [], ◌∷◌, length, inl, inr, sym, ap, refl, subst, arith}
 use Rattle.std.specs.Prelude.{codes, All, Contains, Some}
 use Rattle.std.proofs.lemmas.List.Elements.{All-contains, Contains-append_right}
 use Rattle.std.proofs.Math.Nat.{pow-le-pow_right}
@@ -7,13 +7,12 @@ use Rattle.attr_sets.proofs.AttributesLemmas.{count_below-le, count_below-low, c
 use Rattle.attr_sets.specs.Attributes.{Attributes, below, intersection, IsSubset, count_below}
 use Rattle.attr_sets.specs.declared.set.TheConstants.{MOST_ATTRIBUTES}
 use Rattle.attr_sets.specs.declared.set.AttrSet.{AttrSet}
-use Rattle.armstrong_rel.specs.Refusals.{IsFirstMvd, AreTooMany, HasTooManyRows, IsTooWideToExhibit}
-use Rattle.armstrong_rel.specs.declared.refusal.TheConstants.{WIDEST_EXHIBITED}
+use Rattle.armstrong_rel.specs.Refusals.{IsFirstMvd, HasTooManyRows, IsTooWideToExhibit}
 use Rattle.dep_model.specs.Dependencies.{Dependency}
 use Rattle.dep_model.specs.Plans.{schemes_of}
-use Rattle.dep_model.specs.Schemas.{width_of, theory_of, nullable_of}
+use Rattle.schema_model.specs.Schemas.{width_of, theory_of, nullable_of, theory_in}
 use Rattle.dep_model.specs.Tuples.{Relation}
-use Rattle.dep_model.specs.declared.schema.Schema.{Schema}
+use Rattle.schema_model.specs.Schemas.{Schema}
 use Rattle.fd_closure.specs.LeftSides.{left_sides, IsWideScheme}
 use Rattle.ddl_text.specs.declared.table.TableDesign.{TableDesign}
 use Rattle.missing_values.specs.Missing.{FindsMissing}
@@ -21,7 +20,6 @@ use Rattle.missing_values.specs.declared.refusal.MissingRefusal.{MissingRefusal}
 use Rattle.missing_values.specs.declared.refusal.MissingRefusal.TheVariants.{InKey, InTwo}
 use Rattle.dep_model.specs.declared.form.Form.{Form}
 use Rattle.dep_model.specs.declared.form.Form.TheVariants.{Third, Bcnf, Fourth}
-use Rattle.schema_grammar.specs.Declarations.{Declarations}
 use Rattle.split_forms.proofs.SplitLemmas.{too_many_short}
 use Rattle.split_forms.specs.Splitting.{IsTooWideAt, HasTooManySchemes}
 use Rattle.table_names.specs.TableNames.{GivenNames}
@@ -50,42 +48,39 @@ use Rattle.desk_inputs.specs.Readings.{known_files}
 use Rattle.desk_inputs.specs.Rows.{rows_file}
 use Rattle.desk_laws.specs.Completeness.{IsYesOrNo, IsAnswered, IsSplittable, HasPlanInForm, NamesNoTable, RequiresAll}
 use Rattle.desk_designs.proofs.SplitLemmas.{stuck_within}
-use Rattle.desk_laws.proofs.CompleteLaws.{AreSame, after_schema, after_rows, after_plan, nullable_same, small_same}
+use Rattle.desk_laws.proofs.CompleteLaws.{after_schema, after_rows, after_plan}
 use Rattle.desk_tables.specs.OwnFolders.{Looks}
 
 -- ---- steps
-split_goes : (s r : Schema) (form : Form) (response : ResponseValue) → AreSame s r → IsSplittable s form → SplitStops r form response → ⊥
-split_goes s r form response same can (inl (scheme, wide, says)) =
-    can.narrow scheme (subst (λ (d : Declarations). IsTooWideAt (length d.names) d.deps form MOST_SPLIT_SCHEMES scheme) (sym same) wide)
-split_goes s r form response same can (inr (many, says)) =
-    can.within_limit (subst (λ (d : Declarations). HasTooManySchemes (length d.names) d.deps form MOST_SPLIT_SCHEMES) (sym same) many)
+split_goes : (s : Schema) (form : Form) (response : ResponseValue) → IsSplittable s form → SplitStops s form response → ⊥
+split_goes s form response can (inl (scheme, wide, says)) = can.narrow scheme wide
+split_goes s form response can (inr (many, says)) = can.within_limit many
 
-pub after_form : (s r : Schema) (form : Form) (rest : List AttrSet → Allowed) (response : ResponseValue) → AreSame s r → HasPlanInForm s form
-    → ((plan : List AttrSet) → rest plan response → IsYesOrNo response.status) → WithPlanInForm r form rest response → IsYesOrNo response.status
-after_form s r Third rest response same can go (inl exit) = absurd exit
-after_form s r Bcnf rest response same can go (inl exit) = absurd (split_goes s r Bcnf response same can exit)
-after_form s r Fourth rest response same can go (inl exit) = absurd (split_goes s r Fourth response same can exit)
-after_form s r Third rest response same can go (inr (plan, is, more)) = go plan more
-after_form s r Bcnf rest response same can go (inr (plan, is, more)) = go plan more
-after_form s r Fourth rest response same can go (inr (plan, is, more)) = go plan more
+pub after_form : (s : Schema) (form : Form) (rest : List AttrSet → Allowed) (response : ResponseValue) → HasPlanInForm s form
+    → ((plan : List AttrSet) → rest plan response → IsYesOrNo response.status) → WithPlanInForm s form rest response → IsYesOrNo response.status
+after_form s Third rest response can go (inl exit) = absurd exit
+after_form s Bcnf rest response can go (inl exit) = absurd (split_goes s Bcnf response can exit)
+after_form s Fourth rest response can go (inl exit) = absurd (split_goes s Fourth response can exit)
+after_form s Third rest response can go (inr (plan, is, more)) = go plan more
+after_form s Bcnf rest response can go (inr (plan, is, more)) = go plan more
+after_form s Fourth rest response can go (inr (plan, is, more)) = go plan more
 
-pub after_loss : (s r : Schema) (p plan : List Attributes) (rest : Allowed) (response : ResponseValue) → AreSame s r → p ≡ plan → (IsTooLarge s plan → ⊥)
-    → (rest response → IsYesOrNo response.status) → WithoutLoss r p rest response → IsYesOrNo response.status
-after_loss s r p plan rest response same is small go (inl (inl (fits, lossy, found))) = inr (ap (λ (a : ResponseValue). a.status) found.2)
-after_loss s r p plan rest response same is small go (inl (inr (large, says))) = absurd (small_same s r p plan same is small large)
-after_loss s r p plan rest response same is small go (inr (lossless, more)) = go more
+pub after_loss : (s : Schema) (plan : List Attributes) (rest : Allowed) (response : ResponseValue) → (IsTooLarge s plan → ⊥)
+    → (rest response → IsYesOrNo response.status) → WithoutLoss s plan rest response → IsYesOrNo response.status
+after_loss s plan rest response small go (inl (inl (fits, lossy, found))) = inr (ap (λ (a : ResponseValue). a.status) found.2)
+after_loss s plan rest response small go (inl (inr (large, says))) = absurd (small large)
+after_loss s plan rest response small go (inr (lossless, more)) = go more
 
 found_nowhere : (nullable : Attributes) (tables : List TableDesign) (refusal : MissingRefusal)
     → ((a : ℕ) → nullable a ≡ true → ⊥) → FindsMissing nullable tables (Some refusal) → ⊥
 found_nowhere nullable tables (InKey a k) none finds = none a finds.1.here.missing
 found_nowhere nullable tables (InTwo a j k) none finds = none a finds.1.here.missing
 
-pub after_missing : (s r : Schema) (names : GivenNames) (plan : List Attributes) (rest : Allowed) (response : ResponseValue) → AreSame s r → RequiresAll s
-    → (rest response → IsYesOrNo response.status) → WithoutMissing r names plan rest response → IsYesOrNo response.status
-after_missing s r names plan rest response same none go (inl (tables, design, found)) =
-    absurd (found_nowhere (nullable_of r) tables found.0
-    (subst (λ (x : Attributes). (a : ℕ) → x a ≡ true → ⊥) (nullable_same s r same) none) found.1)
-after_missing s r names plan rest response same none go (inr (never, more)) = go more
+pub after_missing : (s : Schema) (names : GivenNames) (plan : List Attributes) (rest : Allowed) (response : ResponseValue) → RequiresAll s
+    → (rest response → IsYesOrNo response.status) → WithoutMissing s names plan rest response → IsYesOrNo response.status
+after_missing s names plan rest response none go (inl (tables, design, found)) =
+    absurd (found_nowhere (nullable_of s) tables found.0 none found.1)
+after_missing s names plan rest response none go (inr (never, more)) = go more
 
 after_legal : (r : Schema) (rows : Relation) (rest : Allowed) (response : ResponseValue)
     → (rest response → IsYesOrNo response.status) → WithLegal r rows rest response → IsYesOrNo response.status
@@ -102,27 +97,23 @@ WritesTables-yes_or_no r names plan response found = inl (ap (λ (a : ResponseVa
 
 JudgesKeeping-yes_or_no : (r : Schema) (plan : List Attributes) (response : ResponseValue) → JudgesKeeping r plan response → IsYesOrNo response.status
 JudgesKeeping-yes_or_no r plan response (inl (kept, says)) = inl (ap (λ (a : ResponseValue). a.status) says)
-JudgesKeeping-yes_or_no r plan response (inr (lost, found)) = inr (ap (λ (a : ResponseValue). a.status) found.3)
+JudgesKeeping-yes_or_no r plan response (inr (lost, found)) = inr (ap (λ (a : ResponseValue). a.status) found.4)
 
-JudgesForm-yes_or_no : (s r : Schema) (form : Form) (p plan : List Attributes) (response : ResponseValue) → AreSame s r → p ≡ plan → All (λ scheme. IsWideScheme (theory_of s) scheme → ⊥) plan
-    → JudgesForm r form p response → IsYesOrNo response.status
-JudgesForm-yes_or_no s r form p plan response same is narrow (inl (all, says)) = inl (ap (λ (a : ResponseValue). a.status) says)
-JudgesForm-yes_or_no s r form p plan response same is narrow (inr (scheme, first, inl (wide, says))) =
-    let at : Contains plan scheme = subst (λ (l : List Attributes). Contains l scheme) (sym first.list ∙ is)
+JudgesForm-yes_or_no : (s : Schema) (form : Form) (plan : List Attributes) (response : ResponseValue) → All (λ scheme. IsWideScheme (theory_of s) scheme → ⊥) plan
+    → JudgesForm s form plan response → IsYesOrNo response.status
+JudgesForm-yes_or_no s form plan response narrow (inl (all, says)) = inl (ap (λ (a : ResponseValue). a.status) says)
+JudgesForm-yes_or_no s form plan response narrow (inr (scheme, first, inl (wide, says))) =
+    let at : Contains plan scheme = subst (λ (l : List Attributes). Contains l scheme) (sym first.list)
     (Contains-append_right first.earlier (scheme ∷ first.later) scheme (0, omega arith, refl)) in
-    absurd (All-contains (λ (x : Attributes). IsWideScheme (theory_of s) x → ⊥) plan scheme narrow at
-    (subst (λ (d : Declarations). IsWideScheme d.deps scheme) (sym same) wide))
-JudgesForm-yes_or_no s r form p plan response same is narrow (inr (scheme, first, inr (narrow_one, found))) = inr (ap (λ (a : ResponseValue). a.status) found.3)
+    absurd (All-contains (λ (x : Attributes). IsWideScheme (theory_of s) x → ⊥) plan scheme narrow at wide)
+JudgesForm-yes_or_no s form plan response narrow (inr (scheme, first, inr (narrow_one, found))) = inr (ap (λ (a : ResponseValue). a.status) found.3)
 
-Exhibits-yes_or_no : (s r : Schema) (response : ResponseValue) → AreSame s r → ((k : ℕ) → IsFirstMvd (theory_of s) k → ⊥) → (IsTooWideToExhibit s → ⊥) → (HasTooManyRows s → ⊥)
-    → Exhibits r response → IsYesOrNo response.status
-Exhibits-yes_or_no s r response same functional narrow few (inl found) = inl (ap (λ (a : ResponseValue). a.status) found.2)
-Exhibits-yes_or_no s r response same functional narrow few (inr (inl (k, first, says))) =
-    absurd (functional k (subst (λ (d : Declarations). IsFirstMvd d.deps k) (sym same) first))
-Exhibits-yes_or_no s r response same functional narrow few (inr (inr (inl (wide, says)))) =
-    absurd (narrow (subst (λ (d : Declarations). WIDEST_EXHIBITED < count_below (left_sides d.deps) MOST_ATTRIBUTES) (sym same) wide.1))
-Exhibits-yes_or_no s r response same functional narrow few (inr (inr (inr (many, says)))) =
-    absurd (few (subst (λ (d : Declarations). (sets : List Attributes) × AreTooMany (length d.names) d.deps sets) (sym same) many.2))
+Exhibits-yes_or_no : (s : Schema) (response : ResponseValue) → ((k : ℕ) → IsFirstMvd (theory_of s) k → ⊥) → (IsTooWideToExhibit (theory_in s) → ⊥) → (HasTooManyRows (theory_in s) → ⊥)
+    → Exhibits s response → IsYesOrNo response.status
+Exhibits-yes_or_no s response functional narrow few (inl found) = inl (ap (λ (a : ResponseValue). a.status) found.2)
+Exhibits-yes_or_no s response functional narrow few (inr (inl (k, first, says))) = absurd (functional k first)
+Exhibits-yes_or_no s response functional narrow few (inr (inr (inl (wide, says)))) = absurd (narrow wide.1)
+Exhibits-yes_or_no s response functional narrow few (inr (inr (inr (many, says)))) = absurd (few many.2)
 
 -- ---- small universes
 -- over at most 13 attributes splitting meets no limit
@@ -165,10 +156,10 @@ pub check_answered : (form : Form) (files : Files) (name file : List ℕ)
     → IsFile schema_file (known_files files) name schema → IsFile (plan_file schema) (known_files files) file plan
     → All (λ scheme. IsWideScheme (theory_of schema) scheme → ⊥) plan.schemes → IsAnswered files (codes "check" ∷ codes "form" ∷ form_word form ∷ name ∷ file ∷ [])
 check_answered form files name file schema plan held_schema held_plan narrow looks response answered =
-    after_schema files name schema (λ r. WithFile (plan_file r) (known_files files) file (λ p. JudgesForm r form p.schemes)) response held_schema
-    (λ r same more. after_plan files schema r file plan (λ p. JudgesForm r form p.schemes) response same held_plan
-    (λ p is found. JudgesForm-yes_or_no schema r form p.schemes plan.schemes response same (ap (λ (q : NamedSchemes). q.schemes) is) narrow found) more)
-    (check_form_asks form files name file looks response answered)
+    JudgesForm-yes_or_no schema form plan.schemes response narrow
+    (after_plan files schema file plan (λ p. JudgesForm schema form p.schemes) response held_plan
+    (after_schema files name schema (λ r. WithFile (plan_file r) (known_files files) file (λ p. JudgesForm r form p.schemes)) response held_schema
+    (check_form_asks form files name file looks response answered)))
 
 -- a command over a schema alone that finds a plan in a form and goes on with it
 pub form_answered : (files : Files) (words : List (List ℕ)) (name : List ℕ) (form : Form) (rest : Schema → List AttrSet → Allowed)
@@ -178,9 +169,8 @@ pub form_answered : (files : Files) (words : List (List ℕ)) (name : List ℕ) 
     → (schema : Schema) → IsFile schema_file (known_files files) name schema → HasPlanInForm schema form
     → IsAnswered files words
 form_answered files words name form rest says asks schema file can looks response answered =
-    after_schema files name schema (λ r. WithPlanInForm r form (rest r)) response file
-    (λ r same more. after_form schema r form (rest r) response same can (λ plan found. says r plan response found) more)
-    (asks looks response answered)
+    after_form schema form (rest schema) response can (λ plan found. says schema plan response found)
+    (after_schema files name schema (λ r. WithPlanInForm r form (rest r)) response file (asks looks response answered))
 
 -- the tables of a plan, where no value is missing in them where it must not be
 abbrev pub WritesRequired : Schema → List AttrSet → Allowed
@@ -197,11 +187,11 @@ pub ddl_answered : (form : Form) (files : Files) (name : List ℕ)
     → (schema : Schema) → IsFile schema_file (known_files files) name schema → RequiresAll schema → HasPlanInForm schema form
     → IsAnswered files (codes "ddl" ∷ form_word form ∷ name ∷ [])
 ddl_answered form files name schema file none can looks response answered =
-    after_schema files name schema (λ r. WithPlanInForm r form (WritesRequired r)) response file
-    (λ r same more. after_form schema r form (WritesRequired r) response same can
-    (λ plan found. after_missing schema r [] (schemes_of plan) (WritesTables r [] plan) response same none
-    (λ writes. WritesTables-yes_or_no r [] plan response writes) found) more)
-    (ddl_asks form files name looks response answered)
+    after_form schema form (WritesRequired schema) response can
+    (λ plan found. after_missing schema [] (schemes_of plan) (WritesTables schema [] plan) response none
+    (WritesTables-yes_or_no schema [] plan response) found)
+    (after_schema files name schema (λ r. WithPlanInForm r form (WritesRequired r)) response file
+    (ddl_asks form files name looks response answered))
 
 -- files of which none is a table's stay as they are
 abbrev EachNamesNoTable : GivenNames → List (List ℕ) → Type 0
@@ -230,19 +220,17 @@ pub migrate_answered : (form : Form) (files : Files) (name file : List ℕ)
     → NamesNoTable [] name → NamesNoTable [] file → RequiresAll schema → HasPlanInForm schema form
     → IsAnswered files (codes "migrate" ∷ form_word form ∷ name ∷ file ∷ [])
 migrate_answered form files name file schema rows held_schema held_rows own other none can looks response answered =
-    after_schema files name schema
-    (λ r. WithFile (rows_file r) (known_files files) file (MigratesHere r form (name ∷ file ∷ []))) response held_schema
-    (λ r same more. after_rows files schema r file rows (MigratesHere r form (name ∷ file ∷ [])) response same held_rows
-    (λ x found. after_form schema r form
-    (λ plan. WithoutMissing r [] (schemes_of plan)
-    (KeepsFiles [] (length (schemes_of plan)) (name ∷ file ∷ []) (MigratesRows r [] (schemes_of plan) x))) response same can
-    (λ plan stands. after_missing schema r [] (schemes_of plan)
-    (KeepsFiles [] (length (schemes_of plan)) (name ∷ file ∷ []) (MigratesRows r [] (schemes_of plan) x)) response same none
-    (λ kept. MigratesRows-yes_or_no r [] (schemes_of plan) x response
-    (keeps_files [] (length (schemes_of plan)) (name ∷ file ∷ []) (MigratesRows r [] (schemes_of plan) x) response (own, (other, tt)) kept))
-    stands)
-    found) more)
-    (migrate_asks form files name file looks response answered)
+    let read = name ∷ file ∷ [] in
+    let kept : List AttrSet → Allowed =
+    λ plan. KeepsFiles [] (length (schemes_of plan)) read (MigratesRows schema [] (schemes_of plan) rows) in
+    after_form schema form (λ plan. WithoutMissing schema [] (schemes_of plan) (kept plan)) response can
+    (λ plan found. after_missing schema [] (schemes_of plan) (kept plan) response none
+    (λ stays. MigratesRows-yes_or_no schema [] (schemes_of plan) rows response
+    (keeps_files [] (length (schemes_of plan)) read (MigratesRows schema [] (schemes_of plan) rows) response (own, (other, tt)) stays))
+    found)
+    (after_rows files schema file rows (MigratesHere schema form read) response held_rows
+    (after_schema files name schema (λ r. WithFile (rows_file r) (known_files files) file (MigratesHere r form read)) response
+    held_schema (migrate_asks form files name file looks response answered)))
 
 pub split_answered : (files : Files) (words : List (List ℕ)) (name : List ℕ) (form : Form)
     → ((looks : Looks) (response : ResponseValue) → Answers looks (known_files files) words response
@@ -270,7 +258,8 @@ split_wide_asks files name looks response answered = answered
 pub split_wide_answered : (files : Files) (name : List ℕ) (schema : Schema) → IsFile schema_file (known_files files) name schema
     → IsAnswered files (codes "split" ∷ codes "wide-bcnf" ∷ name ∷ [])
 split_wide_answered files name schema file looks response answered =
-    after_schema files name schema SplitsWide response file (λ r same found. inl (ap (λ (a : ResponseValue). a.status) found.2)) (split_wide_asks files name looks response answered)
+    let found = after_schema files name schema SplitsWide response file (split_wide_asks files name looks response answered) in
+    inl (ap (λ (a : ResponseValue). a.status) found.2)
 
 exhibit_asks : (files : Files) (name : List ℕ) (looks : Looks) (response : ResponseValue) → Answers looks (known_files files) (codes "exhibit" ∷ name ∷ []) response
     → WithFile schema_file (known_files files) name Exhibits response
@@ -278,9 +267,10 @@ unfolding form_of form_over_schema schema_alone Performs Does AnswersSchema
 exhibit_asks files name looks response answered = answered
 
 pub exhibit_answered : (files : Files) (name : List ℕ) (schema : Schema) → IsFile schema_file (known_files files) name schema
-    → ((k : ℕ) → IsFirstMvd (theory_of schema) k → ⊥) → (IsTooWideToExhibit schema → ⊥) → (HasTooManyRows schema → ⊥) → IsAnswered files (codes "exhibit" ∷ name ∷ [])
+    → ((k : ℕ) → IsFirstMvd (theory_of schema) k → ⊥) → (IsTooWideToExhibit (theory_in schema) → ⊥) → (HasTooManyRows (theory_in schema) → ⊥) → IsAnswered files (codes "exhibit" ∷ name ∷ [])
 exhibit_answered files name schema file functional narrow few looks response answered =
-    after_schema files name schema Exhibits response file (λ r same found. Exhibits-yes_or_no schema r response same functional narrow few found) (exhibit_asks files name looks response answered)
+    Exhibits-yes_or_no schema response functional narrow few
+    (after_schema files name schema Exhibits response file (exhibit_asks files name looks response answered))
 
 check_keeps_asks : (files : Files) (name file : List ℕ) (looks : Looks) (response : ResponseValue) → Answers looks (known_files files) (codes "check" ∷ codes "keeps" ∷ name ∷ file ∷ []) response
     → WithFile schema_file (known_files files) name (λ r. WithFile (plan_file r) (known_files files) file (λ p. JudgesKeeping r p.schemes)) response
@@ -291,9 +281,10 @@ pub check_keeps_answered : (files : Files) (name file : List ℕ) (schema : Sche
     → IsFile schema_file (known_files files) name schema → IsFile (plan_file schema) (known_files files) file plan
     → IsAnswered files (codes "check" ∷ codes "keeps" ∷ name ∷ file ∷ [])
 check_keeps_answered files name file schema plan held_schema held_plan looks response answered =
-    after_schema files name schema (λ r. WithFile (plan_file r) (known_files files) file (λ p. JudgesKeeping r p.schemes)) response held_schema
-    (λ r same more. after_plan files schema r file plan (λ p. JudgesKeeping r p.schemes) response same held_plan (λ p is found. JudgesKeeping-yes_or_no r p.schemes response found) more)
-    (check_keeps_asks files name file looks response answered)
+    JudgesKeeping-yes_or_no schema plan.schemes response
+    (after_plan files schema file plan (λ p. JudgesKeeping schema p.schemes) response held_plan
+    (after_schema files name schema (λ r. WithFile (plan_file r) (known_files files) file (λ p. JudgesKeeping r p.schemes)) response held_schema
+    (check_keeps_asks files name file looks response answered)))
 
 pub ddl_plan_asks : (files : Files) (name file : List ℕ) (looks : Looks) (response : ResponseValue) → Answers looks (known_files files) (codes "ddl" ∷ codes "plan" ∷ name ∷ file ∷ []) response
     → WithFile schema_file (known_files files) name (λ r. WithFile (plan_file r) (known_files files) file (λ p. WritesPlan r p.names p.schemes)) response
@@ -305,12 +296,13 @@ pub ddl_plan_answered : (files : Files) (name file : List ℕ) (schema : Schema)
     → RequiresAll schema → (IsTooLarge schema plan.schemes → ⊥)
     → IsAnswered files (codes "ddl" ∷ codes "plan" ∷ name ∷ file ∷ [])
 ddl_plan_answered files name file schema plan held_schema held_plan none small looks response answered =
-    after_schema files name schema (λ r. WithFile (plan_file r) (known_files files) file (λ p. WritesPlan r p.names p.schemes)) response held_schema
-    (λ r same more. after_plan files schema r file plan (λ p. WritesPlan r p.names p.schemes) response same held_plan
-    (λ p is found. after_missing schema r p.names p.schemes (WithoutLoss r p.schemes (WritesSchemes r p.names p.schemes)) response same none
-    (λ kept. after_loss schema r p.schemes plan.schemes (WritesSchemes r p.names p.schemes) response same (ap (λ (q : NamedSchemes). q.schemes) is) small
-    (λ writes. WritesTables-yes_or_no r p.names writes.0 response writes.2) kept) found) more)
-    (ddl_plan_asks files name file looks response answered)
+    let writes = WritesSchemes schema plan.names plan.schemes in
+    after_missing schema plan.names plan.schemes (WithoutLoss schema plan.schemes writes) response none
+    (λ kept. after_loss schema plan.schemes writes response small
+    (λ found. WritesTables-yes_or_no schema plan.names found.0 response found.2) kept)
+    (after_plan files schema file plan (λ p. WritesPlan schema p.names p.schemes) response held_plan
+    (after_schema files name schema (λ r. WithFile (plan_file r) (known_files files) file (λ p. WritesPlan r p.names p.schemes)) response held_schema
+    (ddl_plan_asks files name file looks response answered)))
 
 migrate_plan_asks : (files : Files) (name planned file : List ℕ) (looks : Looks) (response : ResponseValue)
     → Answers looks (known_files files) (codes "migrate" ∷ codes "plan" ∷ name ∷ planned ∷ file ∷ []) response
@@ -332,18 +324,19 @@ pub migrate_plan_answered : (files : Files) (name planned file : List ℕ) (sche
 migrate_plan_answered files name planned file schema plan rows held_schema held_plan held_rows own also other none small
     looks response answered =
     let read = name ∷ planned ∷ file ∷ [] in
-    after_schema files name schema
+    let count = length plan.schemes in
+    let moves = MigratesPlan schema plan.names plan.schemes rows in
+    after_missing schema plan.names plan.schemes (KeepsFiles plan.names count read moves) response none
+    (λ kept. after_loss schema plan.schemes (MigratesRows schema plan.names plan.schemes rows) response small
+    (MigratesRows-yes_or_no schema plan.names plan.schemes rows response)
+    (keeps_files plan.names count read moves response (own, (also, (other, tt))) kept))
+    (after_rows files schema file rows (MigratesPlanHere schema plan.names plan.schemes read) response held_rows
+    (after_plan files schema planned plan
+    (λ p. WithFile (rows_file schema) (known_files files) file (MigratesPlanHere schema p.names p.schemes read)) response held_plan
+    (after_schema files name schema
     (λ r. WithFile (plan_file r) (known_files files) planned
     (λ p. WithFile (rows_file r) (known_files files) file (MigratesPlanHere r p.names p.schemes read))) response held_schema
-    (λ r same more. after_plan files schema r planned plan
-    (λ p. WithFile (rows_file r) (known_files files) file (MigratesPlanHere r p.names p.schemes read)) response same held_plan
-    (λ p is found. after_rows files schema r file rows (MigratesPlanHere r p.names p.schemes read) response same held_rows
-    (λ x stands. after_missing schema r p.names p.schemes (KeepsFiles p.names (length p.schemes) read (MigratesPlan r p.names p.schemes x)) response same none
-    (λ kept. after_loss schema r p.schemes plan.schemes (MigratesRows r p.names p.schemes x) response same (ap (λ (q : NamedSchemes). q.schemes) is) small
-    (λ gives. MigratesRows-yes_or_no r p.names p.schemes x response gives)
-    (keeps_files p.names (length p.schemes) read (MigratesPlan r p.names p.schemes x) response
-    (subst (λ (q : NamedSchemes). EachNamesNoTable q.names read) (sym is) (own, (also, (other, tt)))) kept)) stands) found) more)
-    (migrate_plan_asks files name planned file looks response answered)
+    (migrate_plan_asks files name planned file looks response answered))))
 
 sample_asks : (files : Files) (word : List ℕ) (looks : Looks) (response : ResponseValue) → is_count word ≡ true → Answers looks (known_files files) (codes "sample" ∷ word ∷ []) response → Samples (number_of word) response
 unfolding form_of persons_alone Performs
@@ -353,5 +346,7 @@ pub sample_answered : (files : Files) (word : List ℕ) → is_count word ≡ tr
 sample_answered files word is looks response answered =
     let (schema, of_sample, found) = sample_asks files word looks response is answered in
     let within_limit : width_of schema ≤ 13 = omega (arith, ap length of_sample.names) in
-    after_form schema schema Fourth (λ plan. MigratesRows schema [] (schemes_of plan) (sample_relation (number_of word))) response refl (small_is_splittable schema Fourth within_limit (inr refl))
-    (λ plan gives. MigratesRows-yes_or_no schema [] (schemes_of plan) (sample_relation (number_of word)) response gives) found
+    let rows = sample_relation (number_of word) in
+    after_form schema Fourth (λ plan. MigratesRows schema [] (schemes_of plan) rows) response
+    (small_is_splittable schema Fourth within_limit (inr refl))
+    (λ plan gives. MigratesRows-yes_or_no schema [] (schemes_of plan) rows response gives) found

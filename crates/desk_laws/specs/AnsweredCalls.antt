@@ -3,7 +3,7 @@
 use Rattle.std.specs.Prelude.{ℕ, List, [], ◌∷◌, codes}
 use Rattle.dep_model.specs.Dependencies.{Dependency}
 use Rattle.dep_model.specs.Tuples.{Relation}
-use Rattle.dep_model.specs.declared.schema.Schema.{Schema}
+use Rattle.schema_model.specs.Schemas.{Schema, theory_in}
 use Rattle.derivation.specs.Trees.{Tree}
 use Rattle.key_listing.specs.Refusals.{IsTooWide}
 use Rattle.plan_printer.specs.NamedPlans.{NamedSchemes}
@@ -59,7 +59,7 @@ CoverIsAnswered =
 abbrev pub KeysIsAnswered : Type 0
 KeysIsAnswered =
     (files : Files) (name : List ℕ) (schema : Schema) → IsFile schema_file (known_files files) name schema
-    → (IsTooWide schema → ⊥) → (HasManyKeys schema → ⊥)
+    → (IsTooWide (theory_in schema) → ⊥) → (HasManyKeys schema → ⊥)
     → IsAnswered files (codes "keys" ∷ name ∷ [])
 
 -- `synthesize` is answered where the schema file means a schema

@@ -1,7 +1,7 @@
 -- When words are answered, as the laws of `complete_derivations` say it: derivations. `Desk` does not cite it.
 use Rattle.std.specs.Prelude.{ℕ, List, [], ◌∷◌, codes}
 use Rattle.dep_model.specs.Dependencies.{Dependency}
-use Rattle.dep_model.specs.declared.schema.Schema.{Schema}
+use Rattle.schema_model.specs.Schemas.{Schema}
 use Rattle.desk_arguments.specs.Goals.{IsGoal}
 use Rattle.desk_inputs.specs.FileKinds.{IsFile}
 use Rattle.desk_inputs.specs.Inputs.{derivation_file, schema_file}

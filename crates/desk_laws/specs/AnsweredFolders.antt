@@ -1,7 +1,7 @@
 -- When words are answered, as the laws of `complete_folders` say it: `migrate .. into`. `Desk` does not cite it.
 use Rattle.std.specs.Prelude.{ℕ, IsTrue, false, List, [], ◌∷◌, codes}
 use Rattle.dep_model.specs.Tuples.{Relation}
-use Rattle.dep_model.specs.declared.schema.Schema.{Schema}
+use Rattle.schema_model.specs.Schemas.{Schema}
 use Rattle.dep_model.specs.declared.form.Form.{Form}
 use Rattle.plan_printer.specs.NamedPlans.{NamedSchemes}
 use Rattle.desk_outside.specs.Files.{Files}

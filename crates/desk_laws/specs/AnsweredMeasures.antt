@@ -2,9 +2,9 @@
 -- cite it.
 use Rattle.std.specs.Prelude.{ℕ, List, [], ◌∷◌, codes}
 use Rattle.armstrong_rel.specs.Refusals.{IsFirstMvd}
-use Rattle.dep_model.specs.Schemas.{theory_of}
+use Rattle.schema_model.specs.Schemas.{theory_of}
 use Rattle.dep_model.specs.Tuples.{Relation}
-use Rattle.dep_model.specs.declared.schema.Schema.{Schema}
+use Rattle.schema_model.specs.Schemas.{Schema}
 use Rattle.desk_outside.specs.Files.{Files}
 use Rattle.desk_inputs.specs.FileKinds.{IsFile}
 use Rattle.desk_inputs.specs.Inputs.{schema_file}

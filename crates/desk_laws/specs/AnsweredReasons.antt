@@ -1,6 +1,6 @@
 -- When words are answered, as the laws of `complete_reasons` say it: reasons. `Desk` does not cite it.
 use Rattle.std.specs.Prelude.{ℕ, List, [], ◌∷◌, codes}
-use Rattle.dep_model.specs.declared.schema.Schema.{Schema}
+use Rattle.schema_model.specs.Schemas.{Schema, theory_in}
 use Rattle.key_listing.specs.Refusals.{IsTooWide}
 use Rattle.desk_outside.specs.Files.{Files}
 use Rattle.desk_inputs.specs.FileKinds.{IsFile}
@@ -22,7 +22,7 @@ abbrev pub ExplainKeysIsAnswered : Type 0
 ExplainKeysIsAnswered =
     (files : Files) (name : List ℕ) (schema : Schema)
     → IsFile schema_file (known_files files) name schema
-    → (IsTooWide schema → ⊥) → (HasManyKeys schema → ⊥)
+    → (IsTooWide (theory_in schema) → ⊥) → (HasManyKeys schema → ⊥)
     → IsAnswered files (codes "explain" ∷ codes "keys" ∷ name ∷ [])
 
 -- `explain synthesize` is answered where the schema file means a schema

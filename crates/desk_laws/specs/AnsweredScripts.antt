@@ -1,6 +1,6 @@
 -- When words are answered, as the laws of `complete_scripts` say it: scripts and pictures. `Desk` does not cite it.
 use Rattle.std.specs.Prelude.{◌≡◌, None, ℕ, List, [], ◌∷◌, IsTrue, codes}
-use Rattle.dep_model.specs.declared.schema.Schema.{Schema}
+use Rattle.schema_model.specs.Schemas.{Schema}
 use Rattle.dep_model.specs.declared.form.Form.{Form}
 use Rattle.plan_printer.specs.NamedPlans.{NamedSchemes}
 use Rattle.desk_outside.specs.Files.{Files}

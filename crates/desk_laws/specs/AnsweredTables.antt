@@ -5,11 +5,10 @@ use Rattle.armstrong_rel.specs.Refusals.{IsFirstMvd, HasTooManyRows, IsTooWideTo
 use Rattle.candidate_search.specs.declared.side.TooManyLeftSides.{TooManyLeftSides}
 use Rattle.csv_rows.specs.declared.part.PartialRows.{PartialRows}
 use Rattle.dep_model.specs.Projections.{Covers}
-use Rattle.dep_model.specs.Schemas.{width_of, theory_of}
+use Rattle.schema_model.specs.Schemas.{width_of, theory_of, theory_in}
 use Rattle.dep_model.specs.Tuples.{Relation}
-use Rattle.dep_model.specs.declared.schema.Schema.{Schema}
-use Rattle.headed_rows.specs.declared.headed_rows.Headed.{Headed}
-use Rattle.headed_rows.specs.Headings.{names_under, rows_under}
+use Rattle.schema_model.specs.Schemas.{Schema}
+use Rattle.headed_rows.specs.Headings.{HeadedRows}
 use Rattle.fd_closure.specs.LeftSides.{IsWideScheme}
 use Rattle.lexer.specs.Bytes.{number_of}
 use Rattle.lexer.specs.Lines.{without_mark}
@@ -86,8 +85,8 @@ abbrev pub ExhibitIsAnswered : Type 0
 ExhibitIsAnswered =
     (files : Files) (name : List ℕ) (schema : Schema)
     → IsFile schema_file (known_files files) name schema
-    → ((k : ℕ) → IsFirstMvd (theory_of schema) k → ⊥) → (IsTooWideToExhibit schema → ⊥)
-    → (HasTooManyRows schema → ⊥)
+    → ((k : ℕ) → IsFirstMvd (theory_of schema) k → ⊥) → (IsTooWideToExhibit (theory_in schema) → ⊥)
+    → (HasTooManyRows (theory_in schema) → ⊥)
     → IsAnswered files (codes "exhibit" ∷ name ∷ [])
 
 -- `ddl` is answered where the schema file means a schema of which no value may be missing, and a plan in the
@@ -151,8 +150,8 @@ SampleIsAnswered =
 -- (`law`)
 abbrev pub DiscoverIsAnswered : Type 0
 DiscoverIsAnswered =
-    (files : Files) (file : List ℕ) (headed : Headed) → IsFile headed_file (known_files files) file headed
-    → ((refusal : TooManyLeftSides) → HasTooManyLeftSides (length (names_under headed)) headed refusal → ⊥)
+    (files : Files) (file : List ℕ) (headed : HeadedRows) → IsFile headed_file (known_files files) file headed
+    → ((refusal : TooManyLeftSides) → HasTooManyLeftSides (length headed.names) headed refusal → ⊥)
     → IsAnswered files (codes "discover" ∷ file ∷ [])
 
 -- `discover` is answered where the CSV file has a header that names its columns, and rows under it, and no
@@ -160,7 +159,7 @@ DiscoverIsAnswered =
 -- (`small`)
 abbrev pub DiscoverIsAnsweredSmall : Type 0
 DiscoverIsAnsweredSmall =
-    (files : Files) (word file : List ℕ) (headed : Headed) → is_left_bound word ≡ true
+    (files : Files) (word file : List ℕ) (headed : HeadedRows) → is_left_bound word ≡ true
     → IsFile headed_file (known_files files) file headed
     → ((refusal : TooManyLeftSides) → HasTooManyLeftSides (number_of word) headed refusal → ⊥)
     → IsAnswered files (codes "discover" ∷ word ∷ file ∷ [])
@@ -170,32 +169,32 @@ DiscoverIsAnsweredSmall =
 -- (`keys`)
 abbrev pub DiscoverIsAnsweredKeys : Type 0
 DiscoverIsAnsweredKeys =
-    (files : Files) (file : List ℕ) (headed : Headed)
+    (files : Files) (file : List ℕ) (headed : HeadedRows)
     → IsFile headed_file (known_files files) file headed
-    → (HasTooManyKeys (length (names_under headed)) (rows_under headed) → ⊥)
+    → (HasTooManyKeys (length headed.names) headed.rows → ⊥)
     → IsAnswered files (codes "discover" ∷ codes "keys" ∷ file ∷ [])
 
 -- `discover near` is answered where the CSV file has a header that names its columns, and rows under it, and for
 -- no column too many sets must be tried
 abbrev pub DiscoverNearIsAnswered : Type 0
 DiscoverNearIsAnswered =
-    (files : Files) (limit most file : List ℕ) (headed : Headed) → is_row_bound limit ≡ true
+    (files : Files) (limit most file : List ℕ) (headed : HeadedRows) → is_row_bound limit ≡ true
     → is_left_bound most ≡ true → IsFile headed_file (known_files files) file headed
-    → IsTriedWhole (length (names_under headed)) (number_of most) (number_of limit) (rows_under headed)
+    → IsTriedWhole (length headed.names) (number_of most) (number_of limit) headed.rows
     → IsAnswered files (codes "discover" ∷ codes "near" ∷ limit ∷ most ∷ file ∷ [])
 
 -- `discover all` is answered where the CSV file has a header that names at most ten columns, and at most 100,000
 -- rows under it
 abbrev pub DiscoverAllIsAnswered : Type 0
 DiscoverAllIsAnswered =
-    (files : Files) (file : List ℕ) (headed : Headed)
+    (files : Files) (file : List ℕ) (headed : HeadedRows)
     → IsFile whole_file (known_files files) file headed
     → IsAnswered files (codes "discover" ∷ codes "all" ∷ file ∷ [])
 
 -- `import csv` is answered where the CSV file has a header that names its columns, and rows under it
 abbrev pub ImportCsvIsAnswered : Type 0
 ImportCsvIsAnswered =
-    (files : Files) (file : List ℕ) (headed : Headed)
+    (files : Files) (file : List ℕ) (headed : HeadedRows)
     → IsFile imported_file (known_files files) file headed
     → IsAnswered files (codes "import" ∷ codes "csv" ∷ file ∷ [])
 

@@ -2,8 +2,8 @@
 -- not cite it.
 use Rattle.std.specs.Prelude.{◌≡◌, ◌⊎◌, ℕ, true, List, Some}
 use Rattle.attr_sets.specs.Attributes.{Attributes}
-use Rattle.dep_model.specs.Schemas.{width_of, theory_of, nullable_of}
-use Rattle.dep_model.specs.declared.schema.Schema.{Schema}
+use Rattle.schema_model.specs.Schemas.{width_of, theory_of, nullable_of}
+use Rattle.schema_model.specs.Schemas.{Schema}
 use Rattle.dep_model.specs.declared.form.Form.{Form}
 use Rattle.dep_model.specs.declared.form.Form.TheVariants.{Third, Bcnf, Fourth}
 use Rattle.split_forms.specs.Splitting.{IsTooWideAt, HasTooManySchemes}

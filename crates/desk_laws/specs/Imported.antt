@@ -2,8 +2,8 @@
 use Rattle.std.specs.Prelude.{◌≡◌, ℕ, IsTrue, List, [], ◌∷◌, codes, slice_get, All, Some}
 use Rattle.attr_sets.specs.declared.set.AttrSet.{AttrSet}
 use Rattle.ddl_text.specs.declared.table.TableDesign.{TableDesign}
-use Rattle.dep_model.specs.Schemas.{types_of}
-use Rattle.dep_model.specs.declared.schema.Schema.{Schema}
+use Rattle.schema_model.specs.Schemas.{types_of}
+use Rattle.schema_model.specs.Schemas.{Schema}
 use Rattle.import_laws.specs.ImportedTables.{imported_table}
 use Rattle.import_laws.specs.ReadTables.{named}
 use Rattle.import_laws.specs.StatedTypes.{states_a_type}

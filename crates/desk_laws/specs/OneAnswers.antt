@@ -1,11 +1,10 @@
 -- What the laws of `one_answer` say: of words, tasks and texts of files. `Desk` does not cite it.
 use Rattle.std.specs.Prelude.{◌≡◌, ◌⊎◌, ℕ, List, Ok, Err}
-use Rattle.alike_laws.specs.SameDeclarations.{DeclareTheSame}
 use Rattle.csv_rows.specs.Reading.{RowsOf}
 use Rattle.csv_rows.specs.declared.refusal.RowRefusal.{RowRefusal}
 use Rattle.dep_model.specs.Tuples.{Relation}
-use Rattle.dep_model.specs.declared.naming.Naming.{Naming}
-use Rattle.dep_model.specs.declared.schema.Schema.{Schema}
+use Rattle.schema_model.specs.declared.naming.Naming.{Naming}
+use Rattle.schema_model.specs.Schemas.{Schema}
 use Rattle.derivation_grammar.specs.Derivations.{Derives}
 use Rattle.derivation_grammar.specs.Refusals.{IsRefusedDerivation}
 use Rattle.desk_outside.specs.Files.{Files}
@@ -56,15 +55,14 @@ TextsOfFilesHaveOneReadingRows =
     → HasOneReading (λ (rows : Relation). RowsOf schema text (Ok rows))
     (λ (why : RowRefusal). RowsOf schema text (Err why))
 
--- what is asked of a schema, with the files after it, has one answer, which rests on what the schema declares
--- alone, and on what a look at a name is answered: two answers of schemas that declare the same are equal, but
--- for the derivation of a goal that is not fixed, and for a page, which shows derivations
+-- what is asked of a schema, with the files after it, has one answer, which rests on what a look at a name is
+-- answered: two answers are equal, but for the derivation of a goal that is not fixed, and for a page, which shows
+-- derivations
 abbrev pub TasksHaveOneAnswer : Type 0
 TasksHaveOneAnswer =
-    (looks : Looks) (files : Files) (schema other_schema : Schema) (task : Task)
-    (one other : ResponseValue) → HasOneLook looks
-    → DeclareTheSame schema other_schema → Does looks (known_files files) schema task one
-    → Does looks (known_files files) other_schema task other → IsOneButForProof schema task one other
+    (looks : Looks) (files : Files) (schema : Schema) (task : Task) (one other : ResponseValue) → HasOneLook looks
+    → Does looks (known_files files) schema task one → Does looks (known_files files) schema task other
+    → IsOneButForProof schema task one other
 
 -- any two answers that words have over known files, where a look at a name has one answer, are equal, unless the
 -- words ask whether a goal is implied which is: then both answers are yes, and equal where the derivation is

@@ -1,7 +1,7 @@
 -- What the laws of `one_measure` say: of what is wrong with rows. `Desk` does not cite it.
+use Rattle.std.specs.Prelude.{◌≡◌}
 use Rattle.dep_model.specs.Tuples.{Relation}
-use Rattle.dep_model.specs.declared.schema.Schema.{Schema}
-use Rattle.alike_laws.specs.SameDeclarations.{DeclareTheSame}
+use Rattle.schema_model.specs.Schemas.{Schema}
 use Rattle.implication_laws.specs.OneAnswer.{AllowsOne}
 use Rattle.desk_measures.specs.Keeping.{KeepsRows}
 use Rattle.desk_measures.specs.Measures.{MeasuresRows}
@@ -28,8 +28,8 @@ abbrev pub OneAnswerOfKept : Type 0
 OneAnswerOfKept =
     (s : Schema) (rows : Relation) → AllowsOne (KeepsRows s rows)
 
--- two schemas of text columns alone that declare what one schema does declare the same
+-- there is one schema of text columns alone that declares what a schema does
 abbrev pub OneSchemaOfTexts : Type 0
 OneSchemaOfTexts =
     (s one other : Schema) → HasTextsAlone s one → HasTextsAlone s other
-    → DeclareTheSame one other
+    → one ≡ other

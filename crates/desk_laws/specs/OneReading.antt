@@ -1,10 +1,9 @@
 -- When a text has one reading, and words one answer: for the laws of `one_answer`. `Desk` does not cite it.
 use Rattle.std.specs.Prelude.{◌≡◌, ◌⊎◌, ℕ, List, Some, length}
 use Rattle.dep_model.specs.Dependencies.{Dependency}
-use Rattle.dep_model.specs.Schemas.{ImpliedBy}
-use Rattle.dep_model.specs.declared.schema.Schema.{Schema}
-use Rattle.headed_rows.specs.Headings.{names_under}
-use Rattle.headed_rows.specs.declared.headed_rows.Headed.{Headed}
+use Rattle.schema_model.specs.Schemas.{ImpliedBy}
+use Rattle.schema_model.specs.Schemas.{Schema}
+use Rattle.headed_rows.specs.Headings.{HeadedRows}
 use Rattle.implication_laws.specs.OneAnswer.{HasFixedProof}
 use Rattle.desk_arguments.specs.Goals.{IsGoal}
 use Rattle.desk_discovery.specs.Discoveries.{RefusesRules}
@@ -72,8 +71,8 @@ pub record AskForAPage (words : List (List ℕ)) (one other : ResponseValue) : T
 
 -- the refusal of a search for rules that meets too many candidates: of a column of the file for left sides, or
 -- for keys
-abbrev pub RefusesSearch : RulesQuestion → List ℕ → Headed → Allowed
-RefusesSearch minimal_rules file headed = RefusesRules (length (names_under headed)) file headed
+abbrev pub RefusesSearch : RulesQuestion → List ℕ → HeadedRows → Allowed
+RefusesSearch minimal_rules file headed = RefusesRules (length headed.names) file headed
 RefusesSearch (small_rules most) file headed = RefusesRules most file headed
 RefusesSearch keys_of_rows file headed = RefusesRowKeys file headed
 RefusesSearch (near_rules limit most) file headed = λ _. ⊥
@@ -83,6 +82,6 @@ pub record AskForRules (files : Files) (words : List (List ℕ)) (one other : Re
   pub file : List ℕ
   pub question : RulesQuestion
   pub forms : form_of words ≡ Some (discover question file)
-  pub headed : Headed
+  pub headed : HeadedRows
   pub read : IsFile headed_file (known_files files) file headed
   pub refused : RefusesSearch question file headed one ⊎ RefusesSearch question file headed other

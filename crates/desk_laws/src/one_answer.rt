@@ -12,9 +12,9 @@ pub fn texts_of_files_have_one_reading()
     ensures rows { TextsOfFilesHaveOneReadingRows }
 {}
 
-/// What is asked of a schema, with the files after it, has one answer, which rests on what the schema declares
-/// alone, and on what a look at a name is answered: two answers of schemas that declare the same are equal, but for
-/// the derivation of a goal that is not fixed, and for a page, which shows derivations.
+/// What is asked of a schema, with the files after it, has one answer, which rests on what a look at a name is
+/// answered: two answers are equal, but for the derivation of a goal that is not fixed, and for a page, which shows
+/// derivations.
 pub fn tasks_have_one_answer()
     ensures law { TasksHaveOneAnswer }
 {}

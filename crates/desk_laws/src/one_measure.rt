@@ -18,7 +18,7 @@ pub fn one_answer_of_kept()
     ensures law { OneAnswerOfKept }
 {}
 
-/// Two schemas of text columns alone that declare what one schema does declare the same.
+/// There is one schema of text columns alone that declares what a schema does.
 pub fn one_schema_of_texts()
     ensures law { OneSchemaOfTexts }
 {}

@@ -5,9 +5,9 @@ use Rattle.std.specs.List.{HoldsAt}
 use Rattle.std.specs.Prelude.{◌&&◌, IfOk, MatchOption, option_map, slice_get}
 use Rattle.dep_model.specs.Dependencies.{Dependency}
 use Rattle.dep_model.specs.Deps.{IsDepWithin, dependency_of}
-use Rattle.dep_model.specs.Schemas.{deps_of, theory_of, universe_of}
+use Rattle.schema_model.specs.Schemas.{deps_of, theory_of, universe_of}
 use Rattle.dep_model.specs.declared.dep.Dep.{Dep}
-use Rattle.dep_model.specs.declared.schema.Schema.{Schema}
+use Rattle.schema_model.specs.Schemas.{Schema}
 use Rattle.desk_measures.specs.Findings.{Adds, Finding, FindsBelow, FindsBoth, FindsNothing}
 use Rattle.desk_measures.specs.Offences.{OfDependency}
 

@@ -6,10 +6,10 @@ use Rattle.std.specs.Prelude.{◌↔◌, if◌then◌else◌}
 use Rattle.attr_sets.specs.Attributes.{Attributes, count_below}
 use Rattle.column_values.specs.Values.{FitsColumn}
 use Rattle.csv_rows.specs.RefusalTexts.{type_of}
-use Rattle.dep_model.specs.Schemas.{nullable_of}
+use Rattle.schema_model.specs.Schemas.{nullable_of}
 use Rattle.dep_model.specs.Tuples.{Relation, value_at}
-use Rattle.dep_model.specs.declared.column_type.ColumnType.{ColumnType}
-use Rattle.dep_model.specs.declared.schema.Schema.{Schema}
+use Rattle.schema_model.specs.declared.column_type.ColumnType.{ColumnType}
+use Rattle.schema_model.specs.Schemas.{Schema}
 use Rattle.legality.specs.Parts.{flag_at}
 use Rattle.row_store.specs.Rows.{row_at}
 use Rattle.desk_measures.specs.Measures.{IsMistyped}

@@ -4,15 +4,15 @@ use Rattle.std.specs.Prelude.{IsTrue, replicate}
 use Rattle.std.proofs.lemmas.List.{length-replicate}
 use Rattle.std.proofs.lemmas.List.Elements.{All-replicate}
 use Rattle.attr_sets.specs.Attributes.{Attributes}
-use Rattle.dep_model.proofs.ColumnLemmas.{AreDeclared-text}
-use Rattle.dep_model.specs.Columns.{is_column_type}
-use Rattle.dep_model.specs.Schemas.{deps_of, lines_of, names_of, naming_of, nullable_of, width_of}
-use Rattle.dep_model.specs.Validity.{AreDeclared, IsSchema}
-use Rattle.dep_model.specs.declared.column_type.ColumnType.{ColumnType}
-use Rattle.dep_model.specs.declared.column_type.ColumnType.TheVariants.{Text}
+use Rattle.schema_model.proofs.ColumnLemmas.{AreDeclared-text}
+use Rattle.schema_model.specs.Columns.{is_column_type}
+use Rattle.schema_model.specs.Schemas.{deps_of, lines_of, names_of, naming_of, nullable_of, width_of}
+use Rattle.schema_model.specs.Validity.{AreDeclared, IsSchema}
+use Rattle.schema_model.specs.declared.column_type.ColumnType.{ColumnType}
+use Rattle.schema_model.specs.declared.column_type.ColumnType.TheVariants.{Text}
 use Rattle.dep_model.specs.declared.dep.Dep.{Dep}
-use Rattle.dep_model.specs.declared.naming.Naming.{Naming}
-use Rattle.dep_model.specs.declared.schema.Schema.{Schema}
+use Rattle.schema_model.specs.declared.naming.Naming.{Naming}
+use Rattle.schema_model.specs.Schemas.{Schema}
 
 module _ (s : Schema) where
   texts_declared : AreDeclared (naming_of s) (names_of s) (replicate (width_of s) Text) (nullable_of s)

@@ -2,7 +2,7 @@
 use Rattle.std.specs.Prelude.{ℕ}
 use Rattle.dep_model.specs.Dependencies.{Dependency}
 use Rattle.dep_model.specs.Tuples.{Relation}
-use Rattle.dep_model.specs.declared.schema.Schema.{Schema}
+use Rattle.schema_model.specs.Schemas.{Schema}
 use Rattle.desk_measures.specs.Findings.{Finding}
 use Rattle.desk_measures.specs.Measures.{IsMeasured}
 use Rattle.desk_measures.specs.Offences.{ArePartLines, AreRowLines}

@@ -2,9 +2,9 @@
 use Rattle.std.specs.Prelude.{◌≡◌, ◌⊎◌, ℕ, Bool, List}
 use Rattle.armstrong_rel.specs.Refusals.{IsFirstMvd, IsFunctional}
 use Rattle.csv_text.specs.Rows.{rows_text}
-use Rattle.dep_model.specs.Schemas.{names_of, theory_of, LegalFor}
+use Rattle.schema_model.specs.Schemas.{names_of, theory_of, LegalFor, theory_in}
 use Rattle.dep_model.specs.Tuples.{Relation}
-use Rattle.dep_model.specs.declared.schema.Schema.{Schema}
+use Rattle.schema_model.specs.Schemas.{Schema}
 use Rattle.legality.specs.Parts.{flag_at}
 use Rattle.removal_laws.specs.Removals.{rows_at}
 use Rattle.row_measures.specs.Answers.{AreKeptFlags}
@@ -14,7 +14,7 @@ use Rattle.desk_responses.specs.ResponseValues.{Allowed, Says}
 
 -- the rows that each dependency keeps, in their order; they are legal
 pub record AreKeptRows (schema : Schema) (rows kept : Relation) : Type 0 where
-  pub functional : IsFunctional schema
+  pub functional : IsFunctional (theory_in schema)
   pub flags : List Bool
   pub are : AreKeptFlags (theory_of schema) rows flags
   pub rest : kept ≡ rows_at (flag_at flags) rows

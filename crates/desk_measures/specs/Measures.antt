@@ -7,10 +7,10 @@ use Rattle.attr_sets.specs.declared.set.TheConstants.{MOST_ATTRIBUTES}
 use Rattle.column_values.specs.Values.{FitsColumn}
 use Rattle.csv_rows.specs.RefusalTexts.{type_of}
 use Rattle.dep_model.specs.Dependencies.{Dependency, fd, mvd}
-use Rattle.dep_model.specs.Schemas.{lines_of, nullable_of, width_of}
+use Rattle.schema_model.specs.Schemas.{lines_of, nullable_of, width_of}
 use Rattle.dep_model.specs.Tuples.{Relation, value_at}
-use Rattle.dep_model.specs.declared.column_type.ColumnType.{ColumnType}
-use Rattle.dep_model.specs.declared.schema.Schema.{Schema}
+use Rattle.schema_model.specs.declared.column_type.ColumnType.{ColumnType}
+use Rattle.schema_model.specs.Schemas.{Schema}
 use Rattle.legality.specs.Parts.{flag_at}
 use Rattle.row_measures.specs.Answers.{IsMeasure}
 use Rattle.row_measures.specs.declared.breach.Measure.{Measure}

@@ -5,14 +5,14 @@ use Rattle.std.specs.List.{flat_map}
 use Rattle.attr_sets.specs.Attributes.{Attributes, below, union}
 use Rattle.csv_text.specs.Rows.{csv_row}
 use Rattle.dep_model.specs.Dependencies.{Dependency, fd, mvd}
-use Rattle.dep_model.specs.Schemas.{lines_of, names_of, theory_of, width_of}
+use Rattle.schema_model.specs.Schemas.{lines_of, names_of, theory_of, width_of}
 use Rattle.dep_model.specs.Tuples.{Tuple, Relation, value_at}
-use Rattle.dep_model.specs.declared.schema.Schema.{Schema}
+use Rattle.schema_model.specs.Schemas.{Schema}
 use Rattle.row_measures.specs.Answers.{AreBrokenParts, AreBrokenRows}
 use Rattle.row_measures.specs.declared.breach.BrokenPart.{BrokenPart}
 use Rattle.row_measures.specs.declared.breach.BrokenRow.{BrokenRow}
-use Rattle.row_measures.specs.declared.breach.Mark.{Mark}
-use Rattle.row_measures.specs.declared.breach.Mark.TheVariants as mark
+use Rattle.row_measures.specs.declared.breach.RowMark.{RowMark}
+use Rattle.row_measures.specs.declared.breach.RowMark.TheVariants as mark
 use Rattle.row_store.specs.Rows.{row_at}
 use Rattle.desk_responses.specs.Lines.{line_number_text}
 use Rattle.desk_responses.specs.ResponseValues.{Allowed, Says}
@@ -20,7 +20,7 @@ use Rattle.desk_measures.specs.Findings.{Finding, FindsBelow, FindsNothing, stat
 
 -- ---- fields
 -- whether a class or a row is one that stays; nothing is said where a group breaks a multivalued dependency
-abbrev pub mark_text : Mark → List ℕ
+abbrev pub mark_text : RowMark → List ℕ
 mark_text mark.Kept = codes "yes"
 mark_text mark.Removed = codes "no"
 mark_text mark.Unmarked = []

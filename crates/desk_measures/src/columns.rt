@@ -2,8 +2,8 @@
 
 ghost use Rattle.std.specs.Prelude.{◌≡◌, ◌<◌, ◌≤◌, ◌==◌, ◌++◌, [], length, if◌then◌else◌, slice_index_or, IsTrue, IfOk, OnOk};
 ghost use Rattle.std.specs.List.{position_or_len};
-ghost use Rattle.dep_model.specs.Columns.{is_column_type};
-ghost use Rattle.dep_model.specs.Schemas.{width_of};
+ghost use Rattle.schema_model.specs.Columns.{is_column_type};
+ghost use Rattle.schema_model.specs.Schemas.{width_of};
 ghost use Rattle.schema_printer.specs.Printing.{type_word};
 ghost use Rattle.schema_printer.specs.Spelling.{printed_names_of};
 ghost use Rattle.desk_measures.specs.Findings.{Adds, FindsBelow};
@@ -14,9 +14,10 @@ use crate::telling::both;
 use byte_texts::add;
 use column_values::fits_column;
 use csv_rows::type_of;
-use dep_model::{ColumnType, OutOfMemory, Schema};
+use dep_model::OutOfMemory;
 use itoa::Buffer;
 use row_store::Rows;
+use schema_model::{ColumnType, Schema};
 use schema_printer::{add_name, add_type_word};
 use std::alloc::Global;
 

@@ -2,17 +2,18 @@
 
 ghost use Rattle.std.specs.Prelude.{◌≡◌, ◌≤◌, ◌++◌, [], ◌∷◌, if◌then◌else◌, slice_get, OnOk};
 ghost use Rattle.attr_sets.specs.Sets.{attributes};
-ghost use Rattle.dep_model.specs.Schemas.{lines_of, names_of};
+ghost use Rattle.schema_model.specs.Schemas.{lines_of, names_of};
 ghost use Rattle.dep_model.specs.Tuples.{value_at};
 ghost use Rattle.row_store.specs.Rows.{row_at};
 ghost use Rattle.desk_responses.specs.Lines.{line_number_text};
 ghost use Rattle.desk_measures.specs.Offences.{mark_text, part_fields, part_headings, row_fields, row_headings, values_below};
 
 use attr_sets::{AttrSet, MOST_ATTRIBUTES};
-use dep_model::{OutOfMemory, Schema};
+use dep_model::OutOfMemory;
 use itoa::Buffer;
-use row_measures::{BrokenPart, BrokenRow, Mark};
+use row_measures::{BrokenPart, BrokenRow, RowMark};
 use row_store::{FlatValues, Rows};
+use schema_model::Schema;
 
 // The fields become the header of the lines of classes.
 pub fn take_part_headings(fields: &mut FlatValues) -> Result<(), OutOfMemory>
@@ -107,13 +108,13 @@ fn push_line_number(fields: &mut FlatValues, schema: &Schema, k: usize) -> Resul
 }
 
 // A mark in words.
-fn mark_word(mark: Mark) -> &'static [u8]
+fn mark_word(mark: RowMark) -> &'static [u8]
     ensures word { result.now ≡ mark_text mark }
 {
     match mark {
-        Mark::Kept => b"yes",
-        Mark::Removed => b"no",
-        Mark::Unmarked => b"",
+        RowMark::Kept => b"yes",
+        RowMark::Removed => b"no",
+        RowMark::Unmarked => b"",
     }
 }
 

@@ -1,7 +1,7 @@
 ghost use Rattle.std.specs.Prelude.{◌≡◌, ◌<◌, ◌^◌, ◌++◌, [], length, if◌then◌else◌, IfOk, OnOk};
 ghost use Rattle.armstrong_rel.specs.Refusals.{IsFunctional};
 ghost use Rattle.csv_text.specs.Rows.{csv_row, rows_text};
-ghost use Rattle.dep_model.specs.Schemas.{names_of, width_of};
+ghost use Rattle.schema_model.specs.Schemas.{names_of, width_of, theory_in};
 ghost use Rattle.dep_model.specs.Tuples.{IsOver, Relation};
 ghost use Rattle.legality.specs.Parts.{flag_at};
 ghost use Rattle.removal_laws.specs.Removals.{rows_at};
@@ -13,11 +13,12 @@ ghost use Rattle.desk_measures.specs.Keeping.{AreKeptRows, KeepsRows};
 use crate::fields::{push_names, value_of};
 use armstrong_rel::first_mvd;
 use csv_text::add_row;
-use dep_model::{OutOfMemory, Schema};
+use dep_model::OutOfMemory;
 use desk_responses::{EarlyExit, Response, Status, multivalued_exit};
 use row_groups::Interned;
 use row_measures::kept_rows;
 use row_store::{FlatValues, Hashing, Rows};
+use schema_model::Schema;
 use std::alloc::Global;
 
 /// The rows that no dependency removes, which are legal, where all dependencies are functional.
@@ -45,7 +46,7 @@ fn kept_response(
 ) -> Result<Response, OutOfMemory>
     requires over { IsOver (width_of schema.now) rows.now }
     requires fits_u32 { length rows.now < 2 ^ 32 }
-    requires functional { IsFunctional schema.now }
+    requires functional { IsFunctional (theory_in schema.now) }
     ensures response { IfOk result (λ response. (kept : Relation)
         × AreKeptRows schema.now rows.now kept
         × Says Status.Yes (rows_text (names_of schema.now) kept) (response_value response)) }

@@ -4,7 +4,7 @@ ghost use Rattle.attr_sets.specs.Sets.{attributes};
 ghost use Rattle.row_groups.specs.Interning.{IsInterned};
 ghost use Rattle.csv_text.specs.Rows.{csv_row};
 ghost use Rattle.dep_model.specs.Deps.{IsDepWithin, dependency_of};
-ghost use Rattle.dep_model.specs.Schemas.{universe_of, width_of};
+ghost use Rattle.schema_model.specs.Schemas.{universe_of, width_of};
 ghost use Rattle.dep_model.specs.Tuples.{IsOver};
 ghost use Rattle.desk_responses.specs.Responses.{response_value, RespondsAs};
 ghost use Rattle.desk_measures.specs.Findings.{Adds};
@@ -17,11 +17,12 @@ use crate::fields::{
 use crate::telling::{Told, put_each, status_of};
 use attr_sets::AttrSet;
 use csv_text::add_row;
-use dep_model::{Dep, OutOfMemory, Schema};
+use dep_model::{Dep, OutOfMemory};
 use desk_responses::{EarlyExit, Response};
 use row_groups::Interned;
 use row_measures::{BrokenPart, BrokenRow, broken_parts, broken_rows};
 use row_store::{FlatValues, Hashing, Rows};
+use schema_model::Schema;
 use std::alloc::Global;
 
 /// The classes of the groups that break a functional dependency, and the groups that break a

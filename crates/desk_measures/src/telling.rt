@@ -3,17 +3,18 @@
 ghost use Rattle.std.specs.Prelude.{◌≡◌, ◌&&◌, IfOk};
 ghost use Rattle.row_groups.specs.Interning.{IsInterned};
 ghost use Rattle.dep_model.specs.Deps.{IsDepWithin, dependency_of};
-ghost use Rattle.dep_model.specs.Schemas.{universe_of, width_of};
+ghost use Rattle.schema_model.specs.Schemas.{universe_of, width_of};
 ghost use Rattle.desk_measures.specs.Findings.{Adds, status_of};
 ghost use Rattle.desk_measures.specs.Offences.{OfDependency, OfEachDependency};
 ghost use Rattle.desk_measures.specs.BreachFindings.{Tells};
 
 use crate::measures::put_measure_of;
 use crate::offences::{put_parts_of, put_rows_of};
-use dep_model::{Dep, OutOfMemory, Schema};
+use dep_model::{Dep, OutOfMemory};
 use desk_responses::Status;
 use row_groups::Interned;
 use row_store::{FlatValues, Rows};
+use schema_model::Schema;
 use std::alloc::Global;
 
 // What is told of a dependency.

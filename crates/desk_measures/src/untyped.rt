@@ -1,8 +1,9 @@
 ghost use Rattle.std.specs.Prelude.{◌≡◌, List, length, replicate, IfOk};
-ghost use Rattle.dep_model.specs.Schemas.{deps_of, lines_of, names_of, width_of};
+ghost use Rattle.schema_model.specs.Schemas.{deps_of, lines_of, names_of, width_of};
 ghost use Rattle.desk_measures.specs.Untyped.{HasTextsAlone};
 
-use dep_model::{ColumnType, Name, OutOfMemory, Schema};
+use dep_model::OutOfMemory;
+use schema_model::{ColumnType, Name, Schema};
 use std::alloc::Global;
 
 /// What a schema declares, with text columns alone: by it rows are read whose values may not be

@@ -1,6 +1,6 @@
 ghost use Rattle.std.specs.Prelude.{◌≡◌, ◌++◌, codes, IfOk, OnOk};
 ghost use Rattle.std.specs.Fmt.{decimal};
-ghost use Rattle.dep_model.specs.Schemas.{universe_of};
+ghost use Rattle.schema_model.specs.Schemas.{universe_of};
 ghost use Rattle.schema_printer.specs.Spelling.{printed_names_of};
 ghost use Rattle.dep_model.specs.Deps.{dependency_of, IsDepWithin};
 ghost use Rattle.derivation.specs.FaultTexts.{fault_number, fault_text};
@@ -9,10 +9,11 @@ ghost use Rattle.proof_grammar.specs.RefusalTexts.{diagnostic_text, position_tex
 ghost use Rattle.desk_refusals.specs.ProofTexts.{proof_refusal_text, derivation_refusal_text, refused_line_text};
 
 use byte_texts::{add, add_number};
-use dep_model::{Dep, OutOfMemory, Schema};
+use dep_model::{Dep, OutOfMemory};
 use derivation::FaultKind;
 use desk_texts::add_displayed;
 use proof_grammar::{ProofRefusal, ProofRefusalKind};
+use schema_model::Schema;
 use schema_printer::print_dep;
 use std::alloc::Global;
 

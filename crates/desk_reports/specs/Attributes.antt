@@ -3,9 +3,9 @@ use Rattle.std.specs.Prelude.{◌≡◌, ◌⊎◌, ℕ, ◌≤◌, Bool, if◌t
 use Rattle.attr_sets.specs.Attributes.{Attributes, none, union}
 use Rattle.attr_sets.specs.Sets.{attributes}
 use Rattle.attr_sets.specs.declared.set.AttrSet.{AttrSet}
-use Rattle.dep_model.specs.Schemas.{nullable_of, theory_of, types_of, universe_of, width_of}
-use Rattle.dep_model.specs.declared.column_type.ColumnType.TheVariants.{Text}
-use Rattle.dep_model.specs.declared.schema.Schema.{Schema}
+use Rattle.schema_model.specs.Schemas.{nullable_of, theory_of, types_of, universe_of, width_of, theory_in}
+use Rattle.schema_model.specs.declared.column_type.ColumnType.TheVariants.{Text}
+use Rattle.schema_model.specs.Schemas.{Schema}
 use Rattle.design_picture.specs.Picture.{texts_below}
 use Rattle.html_pages.specs.Escapes.{html_text}
 use Rattle.key_listing.specs.Listing.{AreAllKeys}
@@ -25,12 +25,12 @@ pub record AreKeyMembers (s : Schema) (found : Attributes) : Type 0 where
   pub keys : List AttrSet
   pub all : AreAllKeys (width_of s) (theory_of s) (universe_of s) keys
   pub within_limit : length keys ≤ MOST_KEYS
-  pub not_too_wide : IsTooWide s → ⊥
+  pub not_too_wide : IsTooWide (theory_in s) → ⊥
   pub members : found ≡ members_of keys
 
 -- the members of the keys that are listed, none where the keys are refused
 abbrev pub AreListedMembers : Schema → Attributes → Type 0
-AreListedMembers s found = AreKeyMembers s found ⊎ ((IsTooWide s ⊎ HasManyKeys s) × (found ≡ none))
+AreListedMembers s found = AreKeyMembers s found ⊎ ((IsTooWide (theory_in s) ⊎ HasManyKeys s) × (found ≡ none))
 
 -- a cell of a table
 abbrev pub cell_text : List ℕ → List ℕ

@@ -1,6 +1,6 @@
 -- A page that says of a schema, or of a schema and a plan, all that the commands say: for `report`.
 use Rattle.std.specs.Prelude.{ℕ, List, ◌++◌, codes}
-use Rattle.dep_model.specs.declared.schema.Schema.{Schema}
+use Rattle.schema_model.specs.Schemas.{Schema}
 use Rattle.plan_printer.specs.NamedPlans.{NamedSchemes}
 use Rattle.html_pages.specs.Commands.{shell_word}
 use Rattle.html_pages.specs.Pages.{page_text, title_with_words}

@@ -3,17 +3,18 @@
 ghost use Rattle.std.specs.Prelude.{◌≡◌, ◌++◌, ◌<◌, ℕ, codes, IfOk, IsTrue, OnOk};
 ghost use Rattle.attr_sets.specs.Sets.{attributes};
 ghost use Rattle.attr_sets.specs.declared.set.TheConstants.{MOST_ATTRIBUTES};
-ghost use Rattle.dep_model.specs.Schemas.{width_of};
+ghost use Rattle.schema_model.specs.Schemas.{width_of};
 ghost use Rattle.design_picture.specs.Picture.{texts_below};
 ghost use Rattle.desk_reports.specs.Attributes.{AreListedMembers, AttributesSection, ShowsAttributes, attribute_row, attributes_text, cell_text, key_cell, mark, members_of, missing_cell, name_cell, type_cell};
 ghost use Rattle.html_pages.specs.Escapes.{html_text};
 
 use attr_sets::AttrSet;
 use byte_texts::add;
-use dep_model::{Failure, OutOfMemory, Schema};
+use dep_model::{Failure, OutOfMemory};
 use desk_responses::put_name;
 use html_pages::{add_html, section};
 use key_listing::keys;
+use schema_model::Schema;
 use schema_printer::add_type_word;
 use std::alloc::Global;
 
@@ -39,7 +40,7 @@ fn attributes_table(alloc: Global, schema: &Schema) -> Result<Vec<u8>, OutOfMemo
 fn listed_members(alloc: Global, schema: &Schema) -> Result<AttrSet, OutOfMemory>
     ensures members { IfOk result (λ found. AreListedMembers schema.now (attributes found)) }
 {
-    match keys(alloc, schema) {
+    match keys(alloc, &schema.theory()) {
         Ok(keys) => Ok(members_of(&keys)),
         Err(Failure::Refused(_)) => Ok(AttrSet::empty()),
         Err(Failure::OutOfMemory) => Err(OutOfMemory),

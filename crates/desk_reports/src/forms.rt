@@ -5,7 +5,7 @@ ghost use Rattle.attr_sets.specs.Sets.{attributes};
 ghost use Rattle.attr_sets.specs.Attributes.{IsSubset};
 ghost use Rattle.dep_model.specs.Deps.{dependency_of};
 ghost use Rattle.dep_model.specs.Dependencies.{fd};
-ghost use Rattle.dep_model.specs.Schemas.{universe_of};
+ghost use Rattle.schema_model.specs.Schemas.{universe_of, theory_in};
 ghost use Rattle.html_pages.specs.Pages.{title_with_words};
 ghost use Rattle.dep_model.specs.declared.form.Form.TheVariants as forms;
 ghost use Rattle.plans.specs.Plans.{IsPlanOver, plan_of};
@@ -17,12 +17,13 @@ use crate::pieces::{both, folded, opened};
 use arguments::Argument;
 use attr_sets::AttrSet;
 use byte_texts::add;
-use dep_model::{Dep, Form, OutOfMemory, Schema};
+use dep_model::{Dep, Form, OutOfMemory};
 use desk_designs::{check_form, violation_dependency};
 use desk_implication::implies;
 use html_pages::{add_shell_word, section, titled};
 use normal_forms::{Breach, violation};
 use plans::Plan;
+use schema_model::Schema;
 use schema_printer::add_dep;
 use std::alloc::Global;
 
@@ -74,12 +75,12 @@ fn judged_form(alloc: Global, schema: &Schema, form: Form) -> Result<Vec<u8>, Ou
 
 // The plan of one scheme, the universe.
 fn plan_of_one(alloc: Global, schema: &Schema) -> Result<Plan, OutOfMemory>
-    ensures universe { IfOk result (λ plan. IsPlanOver schema.now plan) }
+    ensures universe { IfOk result (λ plan. IsPlanOver (theory_in schema.now) plan) }
     ensures scheme { IfOk result (λ plan. plan_of plan ≡ universe_of schema.now ∷ []) }
 {
     let mut schemes = Vec::new(alloc);
     schemes.push(AttrSet::full(schema.width()))?;
-    Ok(Plan::new(schema, schemes))
+    Ok(Plan::new(&schema.theory(), schemes))
 }
 
 /// The name of a normal form, at the start of a title.
@@ -102,7 +103,7 @@ fn shown_violation(
 ) -> Result<Vec<u8>, OutOfMemory>
     ensures shown { IfOk result (λ text. ShowsViolation file.now schema.now form text.items) }
 {
-    match violation(schema, AttrSet::full(schema.width()), form) {
+    match violation(&schema.theory(), AttrSet::full(schema.width()), form) {
         Ok(None) => Ok(Vec::new(alloc)),
         Ok(Some(breach)) => shown_breach(alloc, schema, file, form, breach),
         Err(_) => Ok(Vec::new(alloc)),

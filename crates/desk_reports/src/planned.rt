@@ -2,7 +2,7 @@
 
 ghost use Rattle.std.specs.Prelude.{◌≡◌, ◌≤◌, codes, length, IfOk};
 ghost use Rattle.dep_model.specs.Projections.{Covers};
-ghost use Rattle.dep_model.specs.Schemas.{width_of};
+ghost use Rattle.schema_model.specs.Schemas.{width_of, theory_in};
 ghost use Rattle.plans.specs.Plans.{IsPlanOver, plan_of};
 ghost use Rattle.plan_printer.specs.NamedPlans.{named_schemes};
 ghost use Rattle.desk_designs.specs.Joins.{JudgesJoin};
@@ -16,11 +16,12 @@ use crate::forms::title_of_form;
 use crate::pieces::{both, folded, opened, title_of_two};
 use crate::tables::shown_picture;
 use arguments::Argument;
-use dep_model::{Form, OutOfMemory, Schema};
+use dep_model::{Form, OutOfMemory};
 use desk_designs::{check_form, check_join, check_keeps, write_plan};
 use html_pages::section;
 use plan_printer::NamedPlan;
 use plans::{MOST_SCHEMES, Plan};
+use schema_model::Schema;
 use std::alloc::Global;
 
 /// The section on the tables of a plan.
@@ -31,7 +32,7 @@ pub fn plan_section(
     file: &Argument,
     plan_file: &Argument,
 ) -> Result<Vec<u8>, OutOfMemory>
-    requires universe { IsPlanOver schema.now planned.now.plan }
+    requires universe { IsPlanOver (theory_in schema.now) planned.now.plan }
     requires within_limit { length (plan_of planned.now.plan) ≤ MOST_SCHEMES }
     requires covers { Covers (width_of schema.now) (plan_of planned.now.plan) }
     ensures section { IfOk result
@@ -54,7 +55,7 @@ fn shown_join(
     file: &Argument,
     plan_file: &Argument,
 ) -> Result<Vec<u8>, OutOfMemory>
-    requires universe { IsPlanOver schema.now planned.now.plan }
+    requires universe { IsPlanOver (theory_in schema.now) planned.now.plan }
     requires within_limit { length (plan_of planned.now.plan) ≤ MOST_SCHEMES }
     requires covers { Covers (width_of schema.now) (plan_of planned.now.plan) }
     ensures shown { IfOk result
@@ -75,7 +76,7 @@ fn shown_forms(
     file: &Argument,
     plan_file: &Argument,
 ) -> Result<Vec<u8>, OutOfMemory>
-    requires universe { IsPlanOver schema.now plan.now }
+    requires universe { IsPlanOver (theory_in schema.now) plan.now }
     ensures shown { IfOk result
         (λ text. ShowsFormsOf file.now plan_file.now schema.now (plan_of plan.now) text.items) }
 {
@@ -96,7 +97,7 @@ fn shown_form_of(
     plan_file: &Argument,
     form: Form,
 ) -> Result<Vec<u8>, OutOfMemory>
-    requires universe { IsPlanOver schema.now plan.now }
+    requires universe { IsPlanOver (theory_in schema.now) plan.now }
     ensures shown { IfOk result
         (λ text. ShowsFormOf file.now plan_file.now schema.now (plan_of plan.now) form text.items) }
 {
@@ -130,7 +131,7 @@ fn shown_use(
     file: &Argument,
     plan_file: &Argument,
 ) -> Result<Vec<u8>, OutOfMemory>
-    requires universe { IsPlanOver schema.now planned.now.plan }
+    requires universe { IsPlanOver (theory_in schema.now) planned.now.plan }
     requires within_limit { length (plan_of planned.now.plan) ≤ MOST_SCHEMES }
     requires covers { Covers (width_of schema.now) (plan_of planned.now.plan) }
     ensures shown { IfOk result

@@ -1,6 +1,6 @@
 ghost use Rattle.std.specs.Prelude.{◌≤◌, codes, length, IfOk};
 ghost use Rattle.dep_model.specs.Projections.{Covers};
-ghost use Rattle.dep_model.specs.Schemas.{width_of};
+ghost use Rattle.schema_model.specs.Schemas.{width_of, theory_in};
 ghost use Rattle.html_pages.specs.Pages.{page_text};
 ghost use Rattle.plans.specs.Plans.{IsPlanOver, plan_of};
 ghost use Rattle.plan_printer.specs.NamedPlans.{named_schemes};
@@ -17,7 +17,7 @@ use crate::rules::rules_section;
 use crate::tables::tables_section;
 use arguments::Argument;
 use byte_texts::add;
-use dep_model::{Form, OutOfMemory, Schema};
+use dep_model::{Form, OutOfMemory};
 use desk_covers::cover;
 use desk_exhibits::exhibit_relation;
 use desk_keys::list_keys;
@@ -25,6 +25,7 @@ use desk_responses::{EarlyExit, Response, Status};
 use html_pages::{close_page, open_page, section};
 use plan_printer::NamedPlan;
 use plans::MOST_SCHEMES;
+use schema_model::Schema;
 use std::alloc::Global;
 
 /// The page of a schema, which is in a file of this name.
@@ -55,7 +56,7 @@ pub fn report_plan(
     file: &Argument,
     plan_file: &Argument,
 ) -> Result<Response, EarlyExit>
-    requires universe { IsPlanOver schema.now planned.now.plan }
+    requires universe { IsPlanOver (theory_in schema.now) planned.now.plan }
     requires within_limit { length (plan_of planned.now.plan) ≤ MOST_SCHEMES }
     requires covers { Covers (width_of schema.now) (plan_of planned.now.plan) }
     ensures response { RespondsAs
@@ -71,7 +72,7 @@ fn plan_page(
     file: &Argument,
     plan_file: &Argument,
 ) -> Result<Response, OutOfMemory>
-    requires universe { IsPlanOver schema.now planned.now.plan }
+    requires universe { IsPlanOver (theory_in schema.now) planned.now.plan }
     requires within_limit { length (plan_of planned.now.plan) ≤ MOST_SCHEMES }
     requires covers { Covers (width_of schema.now) (plan_of planned.now.plan) }
     ensures response { IfOk result

@@ -1,7 +1,7 @@
 //! The section on the dependencies.
 
 ghost use Rattle.std.specs.Prelude.{◌≡◌, ◌↔◌, ◌<◌, length, IfOk, IsTrue};
-ghost use Rattle.dep_model.specs.Schemas.{deps_of};
+ghost use Rattle.schema_model.specs.Schemas.{deps_of};
 ghost use Rattle.desk_reports.specs.Pieces.{EachBelow};
 ghost use Rattle.desk_reports.specs.Rules.{FollowsFromOthers, RulesSection, ShowsRule, ShowsRules, follows_mark, rule_text};
 
@@ -9,9 +9,10 @@ use crate::pieces::both;
 use byte_texts::add;
 use cover_accounts::dependency_and_others;
 use dep_basis::is_implied_by;
-use dep_model::{OutOfMemory, Schema};
+use dep_model::OutOfMemory;
 use desk_responses::{put_dep, put_line};
 use html_pages::{add_html, section};
+use schema_model::Schema;
 use std::alloc::Global;
 
 /// The section on the dependencies of a schema.
@@ -62,7 +63,7 @@ fn follows_from_others(alloc: Global, schema: &Schema, k: usize) -> Result<bool,
     requires position { k < length (deps_of schema.now) }
     ensures follows { IfOk result (λ follows. IsTrue follows ↔ FollowsFromOthers schema.now k) }
 {
-    let (dep, others) = dependency_and_others(alloc, schema, k)?;
+    let (dep, others) = dependency_and_others(alloc, &schema.theory(), k)?;
     Ok(is_implied_by(&others, schema.width(), dep))
 }
 

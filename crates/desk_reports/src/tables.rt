@@ -6,11 +6,12 @@ ghost use Rattle.desk_designs.specs.Keeping.{JudgesKeeping};
 ghost use Rattle.desk_reports.specs.Answers.{IsRefused};
 ghost use Rattle.desk_reports.specs.Pieces.{Opens};
 ghost use Rattle.desk_responses.specs.Responses.{RespondsAs};
+ghost use Rattle.schema_model.specs.Schemas.{theory_in};
 ghost use Rattle.desk_reports.specs.Tables.{GivesPlan, ShowsPicture, ShowsSql, ShowsTables, ShowsTablesIfAny, ShowsPlan, TablesSection, ddl_words, plan_words, tables_heading};
 
 use crate::pieces::{both, folded, opened, title_of};
 use arguments::Argument;
-use dep_model::{Form, Name, OutOfMemory, Schema};
+use dep_model::{Form, OutOfMemory};
 use design_picture::draw_design;
 use desk_designs::{
     check_keeps, design_of_plan, plan_in_form, split_in_form, synthesize_plan, write_form,
@@ -18,6 +19,7 @@ use desk_designs::{
 use desk_responses::{EarlyExit, Response};
 use html_pages::section;
 use plans::Plan;
+use schema_model::{Name, Schema};
 use std::alloc::Global;
 
 /// The section on the tables of a normal form.
@@ -128,7 +130,7 @@ fn shown_tables_of(
     form: Form,
     plan: &Plan,
 ) -> Result<Vec<u8>, OutOfMemory>
-    requires universe { IsPlanOver schema.now plan.now }
+    requires universe { IsPlanOver (theory_in schema.now) plan.now }
     ensures shown { IfOk result
         (λ text. ShowsTables file.now schema.now form (scheme_sets plan.now) text.items) }
 {
@@ -147,7 +149,7 @@ pub fn shown_picture(
     plan: &Plan,
     names: &[Option<Name>],
 ) -> Result<Vec<u8>, OutOfMemory>
-    requires universe { IsPlanOver schema.now plan.now }
+    requires universe { IsPlanOver (theory_in schema.now) plan.now }
     ensures shown { IfOk result
         (λ text. ShowsPicture schema.now names.now (scheme_sets plan.now) text.items) }
 {
@@ -158,7 +160,7 @@ pub fn shown_picture(
 
 // Whether a plan keeps the rules.
 fn shown_keeping(alloc: Global, schema: &Schema, plan: &Plan) -> Result<Vec<u8>, OutOfMemory>
-    requires universe { IsPlanOver schema.now plan.now }
+    requires universe { IsPlanOver (theory_in schema.now) plan.now }
     ensures opens { IfOk result (λ text. Opens (codes "Rules that they keep")
         (JudgesKeeping schema.now (plan_of plan.now)) text.items) }
 {

@@ -1,8 +1,8 @@
 -- An attribute that a schema does not have has no printed name.
 use Rattle.std.proofs.Common.{◌≡◌, ◌≤◌, ◌++◌, ◌∙◌, ℕ, List, [], length, sym, ap, arith}
 use Rattle.std.proofs.lemmas.List.{append-nil, get_or_past}
-use Rattle.dep_model.specs.Schemas.{width_of}
-use Rattle.dep_model.specs.declared.schema.Schema.{Schema}
+use Rattle.schema_model.specs.Schemas.{width_of}
+use Rattle.schema_model.specs.Schemas.{Schema}
 use Rattle.schema_printer.specs.Spelling.{printed_names_of}
 use Rattle.schema_printer.proofs.SpellingLemmas.{length_printed}
 use Rattle.desk_responses.specs.Lines.{attribute_name}

@@ -1,7 +1,7 @@
 -- The refusal of a multivalued dependency, where all must be functional: for `exhibit` and what searches rows.
 use Rattle.std.specs.Prelude.{◌≡◌, ◌⊎◌, ◌≤◌, ℕ, List, ◌++◌, codes, slice_get}
-use Rattle.dep_model.specs.Schemas.{lines_of}
-use Rattle.dep_model.specs.declared.schema.Schema.{Schema}
+use Rattle.schema_model.specs.Schemas.{lines_of}
+use Rattle.schema_model.specs.Schemas.{Schema}
 use Rattle.desk_responses.specs.Lines.{line_number_text}
 use Rattle.desk_texts.specs.Texts.{line}
 

@@ -3,7 +3,7 @@
 ghost use Rattle.std.specs.Prelude.{◌≡◌, ◌++◌, ◌<◌, [], slice_get, IfOk, OnOk};
 ghost use Rattle.attr_sets.specs.Attributes.{IsSubset};
 ghost use Rattle.attr_sets.specs.Sets.{attributes};
-ghost use Rattle.dep_model.specs.Schemas.{deps_of, lines_of, universe_of, width_of};
+ghost use Rattle.schema_model.specs.Schemas.{deps_of, lines_of, universe_of, width_of};
 ghost use Rattle.schema_printer.specs.Spelling.{printed_names_of};
 ghost use Rattle.desk_texts.specs.Texts.{set_line};
 ghost use Rattle.desk_responses.specs.Lines.{bad_table_text, dep_text, line_number_text, attribute_name, too_wide_text};
@@ -14,8 +14,9 @@ use crate::Status;
 use crate::response::EarlyExit;
 use attr_sets::AttrSet;
 use byte_texts::{add, add_number};
-use dep_model::{OutOfMemory, Schema};
+use dep_model::OutOfMemory;
 use desk_texts::line_of;
+use schema_model::Schema;
 use schema_printer::{add_dep, add_name, add_set, print_set};
 use std::alloc::Global;
 

@@ -5,7 +5,8 @@ ghost use Rattle.desk_responses.specs.Responses.{ExitsAs};
 
 use crate::{EarlyExit, Status, put_line};
 use byte_texts::add;
-use dep_model::{OutOfMemory, Schema};
+use dep_model::OutOfMemory;
+use schema_model::Schema;
 use std::alloc::Global;
 
 /// A multivalued dependency is given.

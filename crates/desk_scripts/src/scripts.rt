@@ -1,6 +1,6 @@
 ghost use Rattle.std.specs.Prelude.{◌≡◌, ◌≤◌, None, length, IsTrue, IfOk, IfErr};
 ghost use Rattle.dep_model.specs.Projections.{Covers};
-ghost use Rattle.dep_model.specs.Schemas.{width_of};
+ghost use Rattle.schema_model.specs.Schemas.{width_of, theory_in};
 ghost use Rattle.plans.specs.Plans.{IsPlanOver, plan_of, scheme_sets};
 ghost use Rattle.sql_scripts.specs.Naming.{is_table_name, met_name};
 ghost use Rattle.desk_responses.specs.ResponseValues.{Says};
@@ -9,11 +9,12 @@ ghost use Rattle.desk_scripts.specs.Scripts.{AsksTable, MakesDesign, MetNameStop
 
 use arguments::Argument;
 use ddl_text::DesignList;
-use dep_model::{Form, Name, OutOfMemory, Schema};
+use dep_model::{Form, OutOfMemory};
 use desk_designs::{plan_in_form, required_design, test_loss};
 use desk_responses::{EarlyExit, Response, Status, bad_table_exit};
 use desk_texts::line_of;
 use plans::{MOST_SCHEMES, Plan};
+use schema_model::{Name, Schema};
 use sql_scripts::{check_script, is_table_name, met_name, migrate_script};
 use std::alloc::Global;
 
@@ -60,7 +61,7 @@ pub fn script_migration_by_plan(
     names: &[Option<Name>],
     name: &Argument,
 ) -> Result<Response, EarlyExit>
-    requires universe { IsPlanOver schema.now plan.now }
+    requires universe { IsPlanOver (theory_in schema.now) plan.now }
     requires within_limit { length (plan_of plan.now) ≤ MOST_SCHEMES }
     requires covers { Covers (width_of schema.now) (plan_of plan.now) }
     ensures response { RespondsAs (ScriptsMigrationByPlan schema.now names.now (plan_of plan.now) name.now) result }

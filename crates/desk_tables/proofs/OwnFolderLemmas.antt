@@ -4,7 +4,7 @@ use Rattle.std.specs.Prelude.{IsTrue}
 use Rattle.attr_sets.specs.declared.set.AttrSet.{AttrSet}
 use Rattle.dep_model.specs.Plans.{schemes_of}
 use Rattle.dep_model.specs.Tuples.{Relation}
-use Rattle.dep_model.specs.declared.schema.Schema.{Schema}
+use Rattle.schema_model.specs.Schemas.{Schema}
 use Rattle.table_names.specs.TableNames.{GivenNames}
 use Rattle.desk_responses.specs.Responses.{RespondsAs}
 use Rattle.desk_responses.specs.declared.response.EarlyExit.{EarlyExit}

@@ -3,9 +3,9 @@ use Rattle.std.specs.Prelude.{◌⊎◌, ℕ, List, ◌++◌, codes}
 use Rattle.std.specs.Fmt.{decimal}
 use Rattle.csv_text.specs.Rows.{rows_text}
 use Rattle.dep_model.specs.Projections.{Covers}
-use Rattle.dep_model.specs.Schemas.{names_of, width_of, theory_of}
+use Rattle.schema_model.specs.Schemas.{names_of, width_of, theory_of}
 use Rattle.dep_model.specs.Tuples.{Relation}
-use Rattle.dep_model.specs.declared.schema.Schema.{Schema}
+use Rattle.schema_model.specs.Schemas.{Schema}
 use Rattle.table_join.specs.declared.refusal.JoinRefusal.{JoinRefusal}
 use Rattle.table_join.specs.Answers.{IsNaturalJoin, GivesBack, IsOrderedJoin, RefusesJoin}
 use Rattle.table_join.specs.RefusalTexts.{join_reason_text, join_refusal_number}

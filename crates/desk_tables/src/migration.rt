@@ -4,7 +4,7 @@ ghost use Rattle.std.specs.List.{flat_map};
 ghost use Rattle.named_tables.specs.Tables.{chosen_value, table_values};
 ghost use Rattle.plans.specs.Plans.{IsPlanOver, plan_of};
 ghost use Rattle.dep_model.specs.Projections.{Covers, IsLossless};
-ghost use Rattle.dep_model.specs.Schemas.{LegalFor, theory_of, width_of};
+ghost use Rattle.schema_model.specs.Schemas.{LegalFor, theory_of, width_of, theory_in};
 ghost use Rattle.dep_model.specs.Tuples.{IsOver, Relation};
 ghost use Rattle.schema_printer.specs.Printing.{words_text};
 ghost use Rattle.schema_printer.specs.Spelling.{spelling};
@@ -15,7 +15,7 @@ ghost use Rattle.desk_texts.specs.Texts.{line};
 use crate::rows::test_rows;
 use byte_texts::add;
 use csv_migrate::tables;
-use dep_model::{Name, Naming, OutOfMemory, Schema};
+use dep_model::OutOfMemory;
 use design_order::in_design_order;
 use desk_designs::test_loss;
 use desk_responses::{EarlyExit, Response};
@@ -24,6 +24,7 @@ use itoa::Buffer;
 use named_tables::{ChosenTable, ChosenTables};
 use plans::{MOST_SCHEMES, Plan};
 use row_store::{Hashing, Rows};
+use schema_model::{Name, Naming, Schema};
 use schema_printer::add_name;
 use std::alloc::Global;
 use table_names::MOST_TABLES;
@@ -37,7 +38,7 @@ pub fn migrate_by_plan(
     names: &[Option<Name>],
     rows: Rows,
 ) -> Result<Response, EarlyExit>
-    requires universe { IsPlanOver schema.now plan.now }
+    requires universe { IsPlanOver (theory_in schema.now) plan.now }
     requires within_limit { length (plan_of plan.now) ≤ MOST_SCHEMES }
     requires covers { Covers (width_of schema.now) (plan_of plan.now) }
     requires over { IsOver (width_of schema.now) rows }
@@ -62,7 +63,7 @@ pub fn migrate_rows(
 ) -> Result<Response, EarlyExit>
     requires over { IsOver (width_of schema.now) rows }
     requires fits_u32 { length rows < 2 ^ 32 }
-    requires universe { IsPlanOver schema.now plan.now }
+    requires universe { IsPlanOver (theory_in schema.now) plan.now }
     requires lossless { IsLossless (width_of schema.now) (theory_of schema.now) (plan_of plan.now) }
     ensures response { RespondsAs (MigratesRows schema.now names.now (plan_of plan.now) rows) result }
 {
@@ -84,7 +85,7 @@ fn tables_response(
 ) -> Result<Response, OutOfMemory>
     requires over { IsOver (width_of schema.now) rows }
     requires fits_u32 { length rows < 2 ^ 32 }
-    requires universe { IsPlanOver schema.now plan.now }
+    requires universe { IsPlanOver (theory_in schema.now) plan.now }
     requires lossless { IsLossless (width_of schema.now) (theory_of schema.now) (plan_of plan.now) }
     requires legal { LegalFor schema.now rows }
     ensures response { IfOk result
@@ -106,14 +107,14 @@ fn tables_of(
 ) -> Result<ChosenTables, OutOfMemory>
     requires over { IsOver (width_of schema.now) rows }
     requires fits_u32 { length rows < 2 ^ 32 }
-    requires universe { IsPlanOver schema.now plan.now }
+    requires universe { IsPlanOver (theory_in schema.now) plan.now }
     requires lossless { IsLossless (width_of schema.now) (theory_of schema.now) (plan_of plan.now) }
     requires legal { LegalFor schema.now rows }
     ensures rows { IfOk result (λ tables. tables.rows ≡ rows) }
     ensures tables { IfOk result
         (λ tables. AreTablesOf schema.now names.now (plan_of plan.now) rows (table_values tables)) }
 {
-    let ordered = in_design_order(alloc, schema, plan)?;
+    let ordered = in_design_order(alloc, &schema.theory(), plan)?;
     if ordered.schemes().len() > MOST_TABLES as usize {
         return Err(OutOfMemory);
     }

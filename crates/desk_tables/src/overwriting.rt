@@ -1,7 +1,7 @@
 //! Whether a file that is read would be written over by the tables that it becomes.
 
 ghost use Rattle.std.specs.Prelude.{◌≡◌, ◌≤◌, ◌++◌, false, length, IfOk, IfErr, IsTrue};
-ghost use Rattle.dep_model.specs.Names.{same_name};
+ghost use Rattle.schema_model.specs.Names.{same_name};
 ghost use Rattle.plans.specs.Plans.{plan_of};
 ghost use Rattle.table_names.specs.TableNames.{name_of_table};
 ghost use Rattle.desk_responses.specs.ResponseValues.{Says};
@@ -10,10 +10,11 @@ ghost use Rattle.desk_responses.specs.declared.status.Status.TheVariants.{Refuse
 ghost use Rattle.desk_tables.specs.Overwriting.{IsTableFile, OverStops, is_file_of, plain_name, written_over_text};
 
 use byte_texts::add;
-use dep_model::{Name, OutOfMemory};
+use dep_model::OutOfMemory;
 use desk_responses::{EarlyExit, Status};
 use desk_texts::line_of;
 use plans::Plan;
+use schema_model::Name;
 use std::alloc::Global;
 use table_names::{MOST_TABLES, name_of_table};
 

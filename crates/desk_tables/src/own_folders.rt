@@ -5,7 +5,7 @@ ghost use Rattle.attr_sets.specs.declared.set.AttrSet.{AttrSet};
 ghost use Rattle.table_names.specs.TableNames.{GivenNames};
 ghost use Rattle.desk_designs.specs.Designs.{IsSoundDesign};
 ghost use Rattle.dep_model.specs.Projections.{Covers, IsLossless};
-ghost use Rattle.dep_model.specs.Schemas.{theory_of, width_of};
+ghost use Rattle.schema_model.specs.Schemas.{theory_of, width_of, theory_in};
 ghost use Rattle.dep_model.specs.Tuples.{IsOver};
 ghost use Rattle.plans.specs.Plans.{IsPlanOver, plan_of, scheme_sets};
 ghost use Rattle.desk_responses.specs.ResponseValues.{Says};
@@ -16,12 +16,13 @@ ghost use Rattle.desk_tables.specs.OwnFolders.{FolderStops, IsFolderOf, Looks, M
 use crate::migration::migrate_rows;
 use arguments::Argument;
 use ddl_text::{DesignList, print_ddl};
-use dep_model::{Form, Name, OutOfMemory, Schema};
+use dep_model::{Form, OutOfMemory};
 use desk_designs::{plan_in_form, required_design, test_loss};
 use desk_responses::{EarlyExit, OwnFolder, Response, Status};
 use desk_texts::line_of;
 use plans::{MOST_SCHEMES, Plan};
 use row_store::{Hashing, Rows};
+use schema_model::{Name, Schema};
 use std::alloc::Global;
 
 /// Rows as tables in a normal form, in a folder of their own; `is_free` is the answer to a look at its name.
@@ -66,7 +67,7 @@ pub fn migrate_plan_into(
     is_free: bool,
     rows: Rows,
 ) -> Result<Response, EarlyExit>
-    requires universe { IsPlanOver schema.now plan.now }
+    requires universe { IsPlanOver (theory_in schema.now) plan.now }
     requires within_limit { length (plan_of plan.now) ≤ MOST_SCHEMES }
     requires covers { Covers (width_of schema.now) (plan_of plan.now) }
     requires over { IsOver (width_of schema.now) rows }
@@ -102,7 +103,7 @@ fn migrate_rows_into(
 ) -> Result<Response, EarlyExit>
     requires over { IsOver (width_of schema.now) rows }
     requires fits_u32 { length rows < 2 ^ 32 }
-    requires universe { IsPlanOver schema.now plan.now }
+    requires universe { IsPlanOver (theory_in schema.now) plan.now }
     requires sound { IsSoundDesign schema.now names.now (scheme_sets plan.now) tables.now }
     requires lossless { IsLossless (width_of schema.now) (theory_of schema.now) (plan_of plan.now) }
     ensures response { RespondsAs

@@ -2,7 +2,7 @@
 
 ghost use Rattle.std.specs.Prelude.{◌≤◌, ◌<◌, ◌^◌, [], ◌∷◌, length};
 ghost use Rattle.dep_model.specs.Projections.{Covers};
-ghost use Rattle.dep_model.specs.Schemas.{width_of};
+ghost use Rattle.schema_model.specs.Schemas.{width_of, theory_in};
 ghost use Rattle.dep_model.specs.Tuples.{IsOver};
 ghost use Rattle.plans.specs.Plans.{IsPlanOver, plan_of};
 ghost use Rattle.desk_responses.specs.Responses.{RespondsAs};
@@ -10,11 +10,12 @@ ghost use Rattle.desk_tables.specs.Overwriting.{MigratesHere, MigratesPlanHere};
 
 use crate::migration::{migrate_by_plan, migrate_rows};
 use crate::overwriting::test_file;
-use dep_model::{Form, Name, Schema};
+use dep_model::Form;
 use desk_designs::{plan_in_form, test_missing};
 use desk_responses::{EarlyExit, Response};
 use plans::{MOST_SCHEMES, Plan};
 use row_store::{Hashing, Rows};
+use schema_model::{Name, Schema};
 use std::alloc::Global;
 
 /// Rows as tables in a normal form, where none of their files is one of the files of these names.
@@ -63,7 +64,7 @@ pub fn migrate_plan_here(
     rows_file: &[u8],
     rows: Rows,
 ) -> Result<Response, EarlyExit>
-    requires universe { IsPlanOver schema.now plan.now }
+    requires universe { IsPlanOver (theory_in schema.now) plan.now }
     requires within_limit { length (plan_of plan.now) ≤ MOST_SCHEMES }
     requires covers { Covers (width_of schema.now) (plan_of plan.now) }
     requires over { IsOver (width_of schema.now) rows }

@@ -1,7 +1,7 @@
 ghost use Rattle.std.specs.Prelude.{◌≡◌, ◌<◌, ◌^◌, ◌++◌, length, codes, All, IfOk, OnOk};
 ghost use Rattle.std.specs.Fmt.{decimal};
 ghost use Rattle.csv_text.specs.Rows.{rows_text};
-ghost use Rattle.dep_model.specs.Schemas.{names_of, width_of};
+ghost use Rattle.schema_model.specs.Schemas.{names_of, width_of};
 ghost use Rattle.dep_model.specs.Tuples.{IsOver};
 ghost use Rattle.schema_printer.specs.Spelling.{printed_names_of};
 ghost use Rattle.table_join.specs.RefusalTexts.{join_reason_text};
@@ -13,9 +13,10 @@ ghost use Rattle.desk_responses.specs.Responses.{response_value, RespondsAs, Exi
 
 use byte_texts::{add, add_number};
 use csv_rows::{PartialRows, print_rows};
-use dep_model::{Failure, OutOfMemory, Schema};
+use dep_model::{Failure, OutOfMemory};
 use desk_responses::{EarlyExit, Response, Status, put_name};
 use row_store::{Hashing, Rows};
+use schema_model::Schema;
 use std::alloc::Global;
 use table_join::{JoinRefusal, join};
 

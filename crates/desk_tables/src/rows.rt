@@ -1,16 +1,17 @@
 ghost use Rattle.std.specs.Prelude.{◌≡◌, ◌<◌, ◌^◌, length, IfOk, IfErr};
-ghost use Rattle.dep_model.specs.Schemas.{width_of, LegalFor};
+ghost use Rattle.schema_model.specs.Schemas.{width_of, LegalFor};
 ghost use Rattle.dep_model.specs.Tuples.{IsOver};
 ghost use Rattle.desk_tables.specs.Legality.{JudgesRows, OffenceStops, legal_text, offence_text, offences_text};
 ghost use Rattle.desk_responses.specs.ResponseValues.{Says};
 ghost use Rattle.desk_responses.specs.Responses.{response_value, RespondsAs, ExitsAs};
 
 use byte_texts::{add, add_number};
-use dep_model::{OutOfMemory, Schema};
+use dep_model::OutOfMemory;
 use desk_responses::{EarlyExit, Response, Status, put_dep, put_line};
 use desk_texts::line_of;
 use legality::{Offence, offences};
 use row_store::{Hashing, Rows};
+use schema_model::Schema;
 use std::alloc::Global;
 
 /// Whether rows are legal for a schema.
@@ -43,7 +44,7 @@ pub fn test_rows(
     ensures ok { IfOk result (λ _. LegalFor schema.now rows.now) }
     ensures exit { IfErr result (ExitsAs (OffenceStops schema.now rows.now)) }
 {
-    let found = offences(alloc, hashing, schema, rows)?;
+    let found = offences(alloc, hashing, &schema.theory(), rows)?;
     if found.is_empty() {
         return Ok(());
     }

@@ -3,7 +3,7 @@ use Rattle.std.proofs.Common.{◌≡◌, ◌<◌, ◌≤◌, List, [], length, r
 use Rattle.std.proofs.lemmas.Bool.{cases_Bool, lt-ltb, ltb-true}
 use Rattle.std.specs.Prelude.{codes, nat_lt}
 use Rattle.dep_model.specs.Dependencies.{Dependency}
-use Rattle.dep_model.specs.declared.schema.TheConstants.{MOST_DEPENDENCIES}
+use Rattle.dep_model.specs.declared.theory.TheConstants.{MOST_DEPENDENCIES}
 use Rattle.desk_texts.specs.Texts.{line, overlong_text}
 
 pub overlong : (ds : List Dependency) → MOST_DEPENDENCIES < length ds

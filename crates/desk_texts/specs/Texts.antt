@@ -6,7 +6,7 @@ use Rattle.schema_printer.specs.Printing.{set_text}
 use Rattle.csv_text.specs.Rows.{rows_text}
 use Rattle.dep_model.specs.Dependencies.{Dependency}
 use Rattle.dep_model.specs.Tuples.{Relation}
-use Rattle.dep_model.specs.declared.schema.TheConstants.{MOST_DEPENDENCIES}
+use Rattle.dep_model.specs.declared.theory.TheConstants.{MOST_DEPENDENCIES}
 
 -- a line of a text
 abbrev pub line : List ℕ → List ℕ

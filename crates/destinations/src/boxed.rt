@@ -2,10 +2,10 @@
 
 use crate::destination::Destination;
 use attr_sets::AttrSet;
-use dep_model::Name;
 use desk_outside::{HeldFile, OutsideFault};
 use named_tables::HeldTable;
 use row_store::Rows;
+use schema_model::Name;
 
 impl Destination for Box<dyn Destination> {
     ghost is_known = { λ b. (Destination-box b).is_known b.value };

@@ -8,10 +8,10 @@ ghost use Rattle.dep_model.specs.Projections.{project_tuple};
 ghost use Rattle.row_store.specs.Rows.{row_at};
 
 use attr_sets::AttrSet;
-use dep_model::Name;
 use desk_outside::{HeldFile, OutsideFault};
 use named_tables::HeldTable;
 use row_store::Rows;
+use schema_model::Name;
 
 /// A destination of tables, which come one at a time.
 ///

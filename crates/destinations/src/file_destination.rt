@@ -5,10 +5,11 @@ use crate::buffered_folder::BufferedFolder;
 use crate::destination::Destination;
 use crate::format::{TableFormat, add_line, file_name, front_of, opening_of};
 use attr_sets::AttrSet;
-use dep_model::{Name, OutOfMemory};
+use dep_model::OutOfMemory;
 use desk_outside::{Folder, HeldFile, OutsideFault, write_all};
 use named_tables::HeldTable;
 use row_store::{FlatValues, Rows, project_row};
+use schema_model::Name;
 use std::alloc::Global;
 
 /// A destination over a folder. Each table becomes a file of its own, in one format.

@@ -3,8 +3,9 @@ ghost use Rattle.destinations.specs.Formats.{ending, opening, line_front, row_li
 
 use crate::sql_line;
 use byte_texts::add;
-use dep_model::{Name, OutOfMemory};
+use dep_model::OutOfMemory;
 use row_store::FlatValues;
+use schema_model::Name;
 use std::alloc::Global;
 
 /// How a table is written to a file of its own.

@@ -11,10 +11,11 @@ ghost use Rattle.row_store.specs.Rows.{row_at};
 
 use crate::destination::Destination;
 use attr_sets::AttrSet;
-use dep_model::{Name, OutOfMemory};
+use dep_model::OutOfMemory;
 use desk_outside::{HeldFile, MemorySeries, OutsideFault};
 use named_tables::HeldTable;
 use row_store::{FlatValues, Rows, project_row};
+use schema_model::Name;
 use std::alloc::Global;
 use std::marker::Model;
 

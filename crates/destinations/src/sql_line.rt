@@ -5,8 +5,9 @@ ghost use Rattle.destinations.specs.Sql.{escape_after, escaped_after, quoted_tex
 ghost use Rattle.sql_syntax.specs.Names.{comma_list, separator};
 
 use byte_texts::add;
-use dep_model::{Name, OutOfMemory};
+use dep_model::OutOfMemory;
 use row_store::FlatValues;
+use schema_model::Name;
 use sql_syntax::{add_names, add_quoted};
 use std::alloc::Global;
 

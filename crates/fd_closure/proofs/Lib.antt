@@ -1,7 +1,6 @@
 pub mod AllKeys
 pub mod ClosedSets
 pub mod ClosureLemmas
-pub mod GreedyKeyLemmas
 pub mod GrowthLemmas
 pub mod LeftSideLemmas
 pub mod SchemaLemmas

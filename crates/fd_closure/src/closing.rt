@@ -1,4 +1,4 @@
-ghost use Rattle.std.specs.Prelude.{◌≡◌, ℕ, ◌↔◌, ◌⊎◌, true, IsTrue, All};
+ghost use Rattle.std.specs.Prelude.{◌≡◌, ℕ, ◌↔◌, ◌⊎◌, true, All};
 ghost use Rattle.attr_sets.specs.Attributes.{Attributes, below, IsSubset};
 ghost use Rattle.attr_sets.specs.Sets.{attributes};
 ghost use Rattle.dep_model.specs.Tuples.{Relation};
@@ -6,6 +6,7 @@ ghost use Rattle.dep_model.specs.Dependencies.{fd, ObeysFd, functional_part};
 ghost use Rattle.dep_model.specs.Deps.{IfFd, dependencies_of, IsDepWithin};
 ghost use Rattle.dep_model.specs.Implication.{Implies};
 ghost use Rattle.dep_model.specs.Keys.{InClosure};
+ghost use Rattle.fd_closure.specs.Following.{SaysWhetherFollows};
 ghost use Rattle.fd_closure.specs.FunctionallyClosed.{IsFunctionallyClosed};
 ghost use Rattle.fd_closure.specs.Growth.{Grows};
 
@@ -33,11 +34,7 @@ pub fn functional_closure(deps: &[Dep], from: AttrSet) -> AttrSet
 /// Whether `lhs -> rhs` is implied by the functional dependencies of a list. The search ends as soon as
 /// the right side is found.
 pub fn follows(deps: &[Dep], lhs: AttrSet, rhs: AttrSet) -> bool
-    ensures implied { (n : ℕ) → All (IsDepWithin (below n)) deps.now
-        → IsSubset (attributes lhs) (below n) → IsSubset (attributes rhs) (below n)
-        → IsTrue result
-        ↔ Implies n (functional_part (dependencies_of deps.now)) (fd (attributes lhs)
-        (attributes rhs)) }
+    ensures implied { SaysWhetherFollows deps.now (attributes lhs) (attributes rhs) result }
 {
     rhs.is_subset(closed_until(deps, lhs, rhs))
 }

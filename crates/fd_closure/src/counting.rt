@@ -24,7 +24,8 @@ pub struct Counters {
 }
 
 /// For each attribute, the members whose left side holds it: those of attribute `a` stand in `members`
-/// from `starts[a]` up to `starts[a + 1]`.
+/// from `starts[a]` up to `starts[a + 1]`. It is a matter of speed alone: a closure ends with a pass over all
+/// members, which adds what an index that lacks some has left out.
 #[derive(Debug, Drop)]
 struct Index {
     starts: Vec<usize>,

@@ -6,7 +6,7 @@ ghost use Rattle.dep_model.specs.Deps.{dependencies_of, IsDepWithin};
 ghost use Rattle.dep_model.specs.Keys.{IsGreedyKey};
 
 use crate::follows;
-use attr_sets::{AttrSet, MOST_ATTRIBUTES};
+use attr_sets::{AttrSet, Direction, narrowed};
 use dep_model::Dep;
 
 /// The key of a scheme, by the functional dependencies of a list, that is left where each attribute,
@@ -17,15 +17,10 @@ pub fn functional_key(deps: &[Dep], scheme: AttrSet) -> AttrSet
         → IsGreedyKey n (functional_part (dependencies_of deps.now)) (attributes scheme)
         (attributes result) }
 {
-    let mut key = scheme;
-    for i in (0..MOST_ATTRIBUTES).rev() {
-        if !key.contains(i) {
-            continue;
-        }
-        let rest = key.without(i);
-        if follows(deps, rest, scheme) {
-            key = rest;
-        }
-    }
-    key
+    narrowed(
+        scheme,
+        scheme,
+        Direction::Descending,
+        |set| follows(deps, set, scheme),
+    )
 }

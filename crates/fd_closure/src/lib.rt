@@ -17,6 +17,7 @@ mod kinds;
 mod known;
 pub mod laws;
 mod left_sides;
+mod superkeys;
 
 pub use closing::{follows, functional_closure};
 pub use counting::{Counters, functional_closure_with};
@@ -26,3 +27,4 @@ pub use known::{KnownClosure, known_closure};
 pub use left_sides::{
     WIDEST_SEARCHED, functional_left_attributes, is_wide_scheme, left_attributes,
 };
+pub use superkeys::is_functional_superkey;

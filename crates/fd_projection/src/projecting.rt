@@ -3,7 +3,7 @@ ghost use Rattle.attr_sets.specs.Attributes.{IsSubset};
 ghost use Rattle.attr_sets.specs.Sets.{attributes};
 ghost use Rattle.dep_model.specs.Deps.{dependencies_of, IsDepWithin};
 ghost use Rattle.dep_model.specs.Failures.{RefusesAs};
-ghost use Rattle.dep_model.specs.Schemas.{width_of, universe_of, theory_of};
+ghost use Rattle.dep_model.specs.Theories.{width_of, universe_of, theory_of};
 ghost use Rattle.fd_closure.specs.LeftSides.{IsWideScheme};
 ghost use Rattle.fd_projection.specs.Projections.{IsProjection, IsCoverWithin};
 ghost use Rattle.fd_projection.specs.Refusals.{IsRefusedProjection};
@@ -11,7 +11,7 @@ ghost use Rattle.fd_projection.specs.Refusals.{IsRefusedProjection};
 use crate::refusal::{MOST_LISTED, ProjectionRefusal};
 use crate::searching::minimal_within;
 use attr_sets::AttrSet;
-use dep_model::{Dep, Failure, Schema};
+use dep_model::{Dep, Failure, Theory};
 use fd_closure::is_wide_scheme;
 use min_cover::nonredundant_from;
 use std::alloc::Global;
@@ -26,25 +26,25 @@ use std::alloc::Global;
 /// holds the closures of all 2 to the power n sets of them.
 pub fn project(
     alloc: Global,
-    schema: &Schema,
+    theory: &Theory,
     set: AttrSet,
 ) -> Result<Vec<Dep>, Failure<ProjectionRefusal>>
-    requires set { IsSubset (attributes set) (universe_of schema.now) }
-    ensures projection { IfOk result (λ rules. IsProjection (width_of schema.now) (theory_of schema.now)
+    requires set { IsSubset (attributes set) (universe_of theory.now) }
+    ensures projection { IfOk result (λ rules. IsProjection (width_of theory.now) (theory_of theory.now)
         (attributes set) (dependencies_of rules.items)) }
-    ensures cover { IfOk result (λ rules. IsCoverWithin (width_of schema.now) (theory_of schema.now)
+    ensures cover { IfOk result (λ rules. IsCoverWithin (width_of theory.now) (theory_of theory.now)
         (attributes set) (dependencies_of rules.items)) }
     ensures within { IfOk result (λ rules. All (IsDepWithin (attributes set)) rules.items) }
-    ensures narrow { IfOk result (λ _. IsWideScheme (theory_of schema.now) (attributes set) → ⊥) }
-    ensures refused { IfErr result (RefusesAs (IsRefusedProjection (width_of schema.now)
-        (theory_of schema.now) (attributes set))) }
+    ensures narrow { IfOk result (λ _. IsWideScheme (theory_of theory.now) (attributes set) → ⊥) }
+    ensures refused { IfErr result (RefusesAs (IsRefusedProjection (width_of theory.now)
+        (theory_of theory.now) (attributes set))) }
 {
-    if is_wide_scheme(schema.deps(), set) {
+    if is_wide_scheme(theory.deps(), set) {
         return Err(Failure::Refused(ProjectionRefusal::TooWide));
     }
-    let found = minimal_within(alloc, schema, set)?;
+    let found = minimal_within(alloc, theory, set)?;
     if found.len() > MOST_LISTED {
         return Err(Failure::Refused(ProjectionRefusal::TooMany));
     }
-    Ok(nonredundant_from(alloc, schema.width(), found, 0)?)
+    Ok(nonredundant_from(alloc, theory.width(), found, 0)?)
 }

@@ -20,10 +20,9 @@ use Rattle.attr_sets.proofs.OrderLemmas.{IsBefore-irrefl, before_from_lt}
 use Rattle.attr_sets.proofs.UpToLemmas.{only_before}
 use Rattle.dep_model.specs.Dependencies.{fd}
 use Rattle.dep_model.specs.Tuples.{Relation}
-use Rattle.dep_model.proofs.ListLemmas.{Contains-cases, Contains-head, Contains-later, Contains-map, map-member}
+use Rattle.dep_model.proofs.ListLemmas.{All-members, Contains-flat_map, Contains-map, flat_map-member, map-member}
+use Rattle.dep_model.proofs.PairLemmas.{first_pairs, later_pairs, no_pairs, pairs_append, pairs_map}
 use Rattle.dep_model.proofs.PermutationLemmas.{AllPairs-permutation}
-use Rattle.candidate_sets.proofs.CountLemmas.{first_pairs, later_pairs}
-use Rattle.candidate_sets.proofs.StandingLemmas.{Contains-nil}
 use Rattle.candidate_search.specs.Sides.{HasMinimal, rights_of}
 use Rattle.candidate_search.specs.declared.side.Side.{Side}
 use Rattle.fd_discovery.specs.Minimal.{IsMinimalWithin, Precedes}
@@ -40,67 +39,7 @@ IsSmallPair n most r p = IsSmallWithin n most r (attributes p.0) p.1
 abbrev AreApart : Pair → Pair → Type 0
 AreApart p q = attributes p.0 ≡ attributes q.0 → p.1 ≡ q.1 → ⊥
 
--- ---- lists of lists
-flat_map_has : {X Y : Type 0} (f : X → List Y) (xs : List X) (x : X) (y : Y) → Contains xs x → Contains (f x) y
-    → Contains (flat_map f xs) y
-flat_map_has f [] x y listed has = absurd (Contains-nil x listed)
-flat_map_has {X} {Y} f (z ∷ xs) x y listed has =
-    subst (λ (ys : List Y). Contains ys y) (sym (flat_map-cons f z xs)) (elim (Contains-cases z xs x listed) [
-      | inl same ↦ Contains-append_left (f z) (flat_map f xs) y (subst (λ (w : X). Contains (f w) y) same has)
-      | inr later ↦ Contains-append_right (f z) (flat_map f xs) y (flat_map_has f xs x y later has)
-    ])
-
-flat_map_member : {X Y : Type 0} (f : X → List Y) (xs : List X) (y : Y) → Contains (flat_map f xs) y
-    → (x : X) × Contains xs x × Contains (f x) y
-flat_map_member f [] y listed = absurd (Contains-nil y listed)
-flat_map_member {X} {Y} f (z ∷ xs) y listed =
-    elim (Contains-append_cases (f z) (flat_map f xs) y
-    (subst (λ (ys : List Y). Contains ys y) (flat_map-cons f z xs) listed)) [
-      | inl here ↦ (z, Contains-head z xs, here)
-      | inr later ↦
-          let (x, within, has) = flat_map_member f xs y later in
-          (x, Contains-later z xs x within, has)
-    ]
-
-pub all_from_contains : {X : Type 0} (P : X → Type 0) (xs : List X) → ((x : X) → Contains xs x → P x) → All P xs
-all_from_contains P xs each i d l = each (get_or xs i d) (Contains-get_or xs i d l)
-
-no_pairs : {X : Type 0} (R : X → X → Type 0) → AllPairs R []
-no_pairs R i j d before l = absurd (omega (arith, l))
-
-pairs_append : {X : Type 0} (R : X → X → Type 0) (xs ys : List X) → AllPairs R xs → AllPairs R ys
-    → ((x y : X) → Contains xs x → Contains ys y → R x y) → AllPairs R (xs ++ ys)
-pairs_append R [] ys first second across = second
-pairs_append R (x ∷ xs) ys first second across =
-    AllPairs-cons R x (xs ++ ys)
-    (all_from_contains (R x) (xs ++ ys) (λ y listed. elim (Contains-append_cases xs ys y listed) [
-      | inl here ↦ first_pairs R x xs y first here
-      | inr there ↦ across x y (Contains-head x xs) there
-    ]))
-    (pairs_append R xs ys (later_pairs R x xs first) second
-    (λ z y here there. across z y (Contains-later x xs z here) there))
-
-pairs_map : {X Y : Type 0} (R : Y → Y → Type 0) (f : X → Y) (xs : List X) → AllPairs (λ x y. R (f x) (f y)) xs
-    → AllPairs R (map f xs)
-pairs_map R f [] pairs = no_pairs R
-pairs_map {X} R f (x ∷ xs) pairs =
-    AllPairs-cons R (f x) (map f xs)
-    (All-map (R (f x)) f xs (all_from_contains (λ (y : X). R (f x) (f y)) xs
-    (λ y listed. first_pairs (λ (v w : X). R (f v) (f w)) x xs y pairs listed)))
-    (pairs_map R f xs (later_pairs (λ (v w : X). R (f v) (f w)) x xs pairs))
-
 -- ---- the columns, ascending
-range_push : (a n : ℕ) → range_with_len a (suc n) ≡ range_with_len a n ++ (a + n) ∷ []
-range_push a zero = ap (λ (m : ℕ). m ∷ []) (omega arith)
-range_push a (suc n) =
-    ap (λ (l : List ℕ). a ∷ l) (range_push (a + 1) n ∙ ap (λ (m : ℕ). range_with_len (a + 1) n ++ m ∷ []) (omega arith))
-
-pub range_more : (n : ℕ) → range_with_len 0 (n + 1) ≡ range_with_len 0 n ++ n ∷ []
-range_more n =
-    let next : n + 1 ≡ suc n = omega arith in
-    let last : 0 + n ≡ n = omega arith in
-    ap (range_with_len 0) next ∙ range_push 0 n ∙ ap (λ (m : ℕ). range_with_len 0 n ++ m ∷ []) last
-
 pub range_within : (n : ℕ) → All (λ k. k < n) (range_with_len 0 n)
 range_within n i d l =
     let short : i < n = omega (arith, l, length-range_with_len 0 n) in
@@ -129,7 +68,7 @@ side_apart : (lefts : List AttrSet) (a : ℕ) → AllPairs IsBefore (map attribu
 side_apart [] a ascending = no_pairs AreApart
 side_apart (x ∷ xs) a ascending =
     AllPairs-cons AreApart (x, a) (map (λ left. (left, a)) xs)
-    (All-map (AreApart (x, a)) (λ left. (left, a)) xs (all_from_contains (λ (y : AttrSet). AreApart (x, a) (y, a)) xs
+    (All-map (AreApart (x, a)) (λ left. (left, a)) xs (All-members (λ (y : AttrSet). AreApart (x, a) (y, a)) xs
     (λ y listed same equal. IsBefore-irrefl (attributes y) (subst (λ (z : Attributes). IsBefore z (attributes y)) same
     (first_pairs IsBefore (attributes x) (map attributes xs) (attributes y) ascending (Contains-map attributes xs y listed))))))
     (side_apart xs a (later_pairs IsBefore (attributes x) (map attributes xs) ascending))
@@ -137,8 +76,8 @@ side_apart (x ∷ xs) a ascending =
 -- all sides
 pairs_small : (n most : ℕ) (r : Relation) (sides : List Side) → All (HasMinimal n most r) sides
     → All (IsSmallPair n most r) (flat_map pairs_of sides)
-pairs_small n most r sides are = all_from_contains (IsSmallPair n most r) (flat_map pairs_of sides) (λ p listed.
-    let (side, within, has) = flat_map_member pairs_of sides p listed in
+pairs_small n most r sides are = All-members (IsSmallPair n most r) (flat_map pairs_of sides) (λ p listed.
+    let (side, within, has) = flat_map-member pairs_of sides p listed in
     (side_small n most r side (All-contains (HasMinimal n most r) sides side are within) p has).0)
 
 pairs_all : (n most : ℕ) (r : Relation) (sides : List Side) (x : Attributes) (a : ℕ) → All (HasMinimal n most r) sides
@@ -151,7 +90,7 @@ pairs_all n most r sides x a are rights small =
     let (left, listed, is) = map-member attributes side.lefts.items x ((has.minimal.exactly x).1
     (subst (IsMinimalWithin n r x) (sym right) small.minimal, small.within_limit)) in (
       (left, side.right),
-      flat_map_has pairs_of sides side (left, side.right) within
+      Contains-flat_map pairs_of sides side (left, side.right) within
           (Contains-map (λ (s : AttrSet). (s, side.right)) side.lefts.items left listed),
       ap (λ (v : Attributes). fd v (only side.right)) is ∙ ap (λ (k : ℕ). fd x (only k)) right,
     )
@@ -166,7 +105,7 @@ pairs_apart n most r (side ∷ sides) are ascend =
     (pairs_append AreApart (pairs_of side) (flat_map pairs_of sides) (side_apart side.lefts.items side.right has.minimal.ascending)
     (pairs_apart n most r sides rest (later_pairs (λ (a b : ℕ). a < b) side.right (rights_of sides) ascend))
     (λ p q here there same equal.
-    let (other, within, holds) = flat_map_member pairs_of sides q there in
+    let (other, within, holds) = flat_map-member pairs_of sides q there in
     let p_right = (side_small n most r side has p here).1 in
     let q_right = (side_small n most r other (All-contains (HasMinimal n most r) sides other rest within) q holds).1 in
     let less : side.right < other.right = first_pairs (λ (a b : ℕ). a < b) side.right (rights_of sides) other.right ascend

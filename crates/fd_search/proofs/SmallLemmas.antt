@@ -14,7 +14,7 @@ use Rattle.dep_model.specs.Tuples.{Relation}
 use Rattle.dep_model.specs.declared.dep.Dep.{Dep}
 use Rattle.dep_model.proofs.DistinctLemmas.{filter-keeps, filter-member}
 use Rattle.fd_discovery.specs.Minimal.{AreAllMinimal, IsMinimalFd, IsMinimalWithin, Precedes}
-use Rattle.fd_search.proofs.ListLemmas.{all_from_contains}
+use Rattle.dep_model.proofs.ListLemmas.{All-members}
 use Rattle.fd_search.specs.Small.{AreAllSmall, IsSmallFd, IsSmallWithin, has_few}
 
 -- ---- of a bound that is the width, all
@@ -61,7 +61,7 @@ module _ (n most : ℕ) (r : Relation) (n_in : n ≤ MOST_ATTRIBUTES) where
 
   few_all : (ds : List Dependency) → AreAllMinimal n r ds → AreAllSmall n most r (filter (has_few most) ds)
   few_all ds are = record {
-    each = all_from_contains (IsSmallFd n most r) (filter (has_few most) ds) (λ d listed.
+    each = All-members (IsSmallFd n most r) (filter (has_few most) ds) (λ d listed.
         let (among, few) = filter-member (has_few most) ds d listed in
         few_small d (All-contains (IsMinimalFd n r) ds d are.each among) few);
     all = λ x a small. filter-keeps (has_few most) ds (fd x (only a)) (are.all x a small.minimal) (small_few x a small);

@@ -5,8 +5,8 @@ use Rattle.std.proofs.lemmas.List.{get_or-take, get_or_default, length-take-le}
 use Rattle.std.proofs.lemmas.List.Sums.{fails_before_first}
 use Rattle.std.specs.Prelude.{position}
 use Rattle.attr_sets.specs.declared.set.TheConstants.{MOST_ATTRIBUTES}
-use Rattle.dep_model.specs.Names.{same_name}
-use Rattle.dep_model.specs.Validity.{IsSchema}
+use Rattle.schema_model.specs.Names.{same_name}
+use Rattle.schema_model.specs.Validity.{IsSchema}
 use Rattle.dep_model.specs.declared.dep.Dep.{Dep}
 use Rattle.headed_rows.specs.Headers.{IsHeaderWithin}
 

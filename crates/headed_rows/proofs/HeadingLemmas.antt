@@ -14,8 +14,7 @@ use Rattle.dep_model.specs.Tuples.{Tuple, Relation, IsOver}
 use Rattle.headed_rows.specs.Headers.{IsHeaderWithin, RefusesColumnHeader}
 use Rattle.csv_rows.specs.Quotes.{ends_within_quotes, open_record, is_open}
 use Rattle.csv_rows.specs.Records.{records_of}
-use Rattle.headed_rows.specs.Headings.{is_open_at, FitsRow, RefusesRow, AreRows, RefusesRows, RefusesHeader, RefusesRecords, ReadsNames, RefusesNames, IsHeadedWithin, IsRefusedWithin, names_under, rows_under}
-use Rattle.headed_rows.specs.declared.headed_rows.Headed.{Headed}
+use Rattle.headed_rows.specs.Headings.{AreRows, FitsRow, HeadedRows, IsHeadedWithin, IsRefusedWithin, ReadsNames, RefusesHeader, RefusesNames, RefusesRecords, RefusesRow, RefusesRows, is_open_at}
 use Rattle.headed_rows.specs.declared.headed_rows.Limits.{Limits}
 use Rattle.dep_model.specs.Failures.{RefusesAs}
 use Rattle.dep_model.specs.declared.failure.Failure.{Failure}
@@ -202,17 +201,17 @@ ends_outside text names rows all header closed = by (ends_within_quotes text) he
           | inr none ↦ absurd (grind (arith, nat_tests, h, count, none))
         ]
 
-pub headed_of : (limits : Limits) (text : List ℕ) (unclosed : Option ℕ) (reader : Reader (Bor (List ℕ))) (h : Headed) (n : ℕ) → unclosed ≡ open_record text
-    → (read : ReadsNames limits.columns unclosed (records_of text) reader (names_under h))
-    → n ≡ length (names_under h) → rows_under h ≡ read.records → ((i : ℕ) → i < length (rows_under h) → is_open_at unclosed i ≡ false)
-    → IsOver n (rows_under h) → length (rows_under h) ≤ limits.rows → IsHeadedWithin limits text h
-headed_of limits text unclosed reader h n same read count rows closed even in_limit =
-    let all : records_of text ≡ names_under h ∷ rows_under h = read.all ∙ ap (λ (l : List (List (List ℕ))). names_under h ∷ l) (sym rows) in
+pub is_headed : (limits : Limits) (text : List ℕ) (unclosed : Option ℕ) (reader : Reader (Bor (List ℕ))) (h : HeadedRows) (n : ℕ) → unclosed ≡ open_record text
+    → (read : ReadsNames limits.columns unclosed (records_of text) reader h.names)
+    → n ≡ length h.names → h.rows ≡ read.records → ((i : ℕ) → i < length h.rows → is_open_at unclosed i ≡ false)
+    → IsOver n h.rows → length h.rows ≤ limits.rows → IsHeadedWithin limits text h
+is_headed limits text unclosed reader h n same read count rows closed even in_limit =
+    let all : records_of text ≡ h.names ∷ h.rows = read.all ∙ ap (λ (l : List (List (List ℕ))). h.names ∷ l) (sym rows) in
     record {
       all = all;
-      closed = ends_outside text (names_under h) (rows_under h) all (ap (λ (o : Option ℕ). is_open o 1) (sym same) ∙ read.closed)
+      closed = ends_outside text h.names h.rows all (ap (λ (o : Option ℕ). is_open o 1) (sym same) ∙ read.closed)
           (λ i l. ap (λ (o : Option ℕ). is_open_at o i) (sym same) ∙ closed i l);
       header = read.header;
-      even = subst (λ (m : ℕ). IsOver m (rows_under h)) count even;
+      even = subst (λ (m : ℕ). IsOver m h.rows) count even;
       within_limit = in_limit;
     }

@@ -1,15 +1,14 @@
 -- The records of a text have one header with its rows, or one refusal.
 use Rattle.std.proofs.Common.{inl, inr, ◌≡◌, ◌≢◌, ◌+◌, ◌<◌, ◌≤◌, ◌⊎◌, ℕ, Bool, true, false, if◌then◌else◌, Option, Some, List, [], ◌∷◌, length, take, refl, sym, ap, subst, ◌∙◌, arith, None}
 use Rattle.std.proofs.lemmas.Bool.{cases_lt, true≢false}
-use Rattle.dep_model.specs.Schemas.{attribute_named}
+use Rattle.schema_model.specs.Schemas.{attribute_named}
 use Rattle.dep_model.specs.Tuples.{Relation, IsOver}
-use Rattle.dep_model.specs.Names.{IsName}
+use Rattle.schema_model.specs.Names.{IsName}
 use Rattle.headed_rows.specs.Headers.{NamesColumn, RefusesColumn, field_at, IsHeaderWithin, RefusesField, RefusesColumnHeader}
 use Rattle.csv_rows.specs.Quotes.{open_record, is_open}
 use Rattle.csv_rows.specs.Records.{records_of}
 use Rattle.row_store.specs.Rows.{row_at}
-use Rattle.headed_rows.specs.Headings.{is_open_at, FitsRow, RefusesRow, RefusesRows, RefusesHeader, RefusesRecords, IsHeadedWithin, IsRefusedWithin, names_under, rows_under}
-use Rattle.headed_rows.specs.declared.headed_rows.Headed.{Headed}
+use Rattle.headed_rows.specs.Headings.{FitsRow, HeadedRows, IsHeadedWithin, IsRefusedWithin, RefusesHeader, RefusesRecords, RefusesRow, RefusesRows, is_open_at}
 use Rattle.headed_rows.specs.declared.headed_rows.Limits.{Limits}
 use Rattle.headed_rows.specs.declared.refusal.HeaderRefusal.{HeaderRefusal}
 use Rattle.headed_rows.specs.declared.refusal.HeaderRefusal.TheVariants as refusal
@@ -168,19 +167,17 @@ not_refused : (limits : Limits) (names : List (List ℕ)) (rows : Relation) (e :
 not_refused limits names rows e header even in_limit (inl p) = header_not_refused limits.columns names e header p
 not_refused limits names rows e header even in_limit (inr p) = rows_not_refused limits.rows (length names) rows e even in_limit p.2
 
-pub never_both : (limits : Limits) (text : List ℕ) (h : Headed) (e : HeaderRefusal) → IsHeadedWithin limits text h → IsRefusedWithin limits text e → ⊥
+pub never_both : (limits : Limits) (text : List ℕ) (h : HeadedRows) (e : HeaderRefusal) → IsHeadedWithin limits text h → IsRefusedWithin limits text e → ⊥
 never_both limits text h e is p =
     let none : open_record text ≡ None = ap (λ (b : Bool). if b then Some (length (records_of text)) else None) is.closed in
-    not_refused limits (names_under h) (rows_under h) e is.header is.even is.within_limit
+    not_refused limits h.names h.rows e is.header is.even is.within_limit
     (subst (λ (rs : List (List (List ℕ))). RefusesRecords limits None rs e) is.all
     (subst (λ (o : Option ℕ). RefusesRecords limits o (records_of text) e) none p))
 
-pub names_same : (limits : Limits) (text : List ℕ) (one other : Headed) → IsHeadedWithin limits text one → IsHeadedWithin limits text other
-    → names_under one ≡ names_under other
-names_same limits text one other p q =
-    let same : names_under one ∷ rows_under one ≡ names_under other ∷ rows_under other = sym p.all ∙ q.all in cc
-
-pub rows_same : (limits : Limits) (text : List ℕ) (one other : Headed) → IsHeadedWithin limits text one → IsHeadedWithin limits text other
-    → rows_under one ≡ rows_under other
-rows_same limits text one other p q =
-    let same : names_under one ∷ rows_under one ≡ names_under other ∷ rows_under other = sym p.all ∙ q.all in cc
+pub headed_same : (limits : Limits) (text : List ℕ) (one other : HeadedRows) → IsHeadedWithin limits text one → IsHeadedWithin limits text other
+    → one ≡ other
+headed_same limits text one other p q =
+    let same : one.names ∷ one.rows ≡ other.names ∷ other.rows = sym p.all ∙ q.all in
+    let names : one.names ≡ other.names = cc in
+    let rows : one.rows ≡ other.rows = cc in
+    λ i. record { names = names i; rows = rows i }

@@ -2,10 +2,10 @@
 -- for `read_headed`, by `Headings`, and for what `discover` prints.
 use Rattle.std.specs.Prelude.{◌≡◌, ◌≢◌, ◌+◌, ◌<◌, ◌≤◌, ◌⊎◌, ℕ, Bool, ◌&&◌, not, if◌then◌else◌, List, [], length, take, slice_index_or, None}
 use Rattle.std.specs.List.{list_all}
-use Rattle.dep_model.specs.Names.{IsName, is_bare_name}
-use Rattle.dep_model.specs.Schemas.{attribute_named}
-use Rattle.dep_model.specs.declared.naming.Naming.{Naming}
-use Rattle.dep_model.specs.declared.naming.Naming.TheVariants.{Bare, Any}
+use Rattle.schema_model.specs.Names.{IsName, is_bare_name}
+use Rattle.schema_model.specs.Schemas.{attribute_named}
+use Rattle.schema_model.specs.declared.naming.Naming.{Naming}
+use Rattle.schema_model.specs.declared.naming.Naming.TheVariants.{Bare, Any}
 use Rattle.schema_grammar.specs.Words.{is_reserved}
 use Rattle.schema_grammar.specs.declared.format.Format.TheVariants as format
 use Rattle.row_store.specs.declared.limits.TheConstants.{WIDEST_HEADED}

@@ -14,28 +14,29 @@ use Rattle.row_store.specs.declared.limits.TheConstants.{MOST_HEADED_ROWS, WIDES
 use Rattle.headed_rows.specs.declared.refusal.HeaderRefusal.{HeaderRefusal}
 use Rattle.headed_rows.specs.declared.refusal.HeaderRefusal.TheVariants as refusal
 
--- the names of the columns
-abbrev pub names_under : Headed → List (List ℕ)
-names_under h = h.names.items
+-- rows, and the names that a header gives their columns
+pub record HeadedRows : Type 0 where
+  pub names : List (List ℕ)
+  pub rows : Relation
 
--- the rows
-abbrev pub rows_under : Headed → Relation
-rows_under h = h.rows
+-- the rows of the code with their names
+abbrev pub headed_of : Headed → HeadedRows
+headed_of h = record { names = h.names.items; rows = h.rows }
 
 -- the records of a text are a header, and below it the rows, within these limits
-pub record IsHeadedWithin (limits : Limits) (text : List ℕ) (h : Headed) : Type 0 where
-  pub all : records_of text ≡ names_under h ∷ rows_under h
+pub record IsHeadedWithin (limits : Limits) (text : List ℕ) (h : HeadedRows) : Type 0 where
+  pub all : records_of text ≡ h.names ∷ h.rows
   pub closed : ends_within_quotes text ≡ false
-  pub header : IsHeaderWithin limits.columns (names_under h)
-  pub even : IsOver (length (names_under h)) (rows_under h)
-  pub within_limit : length (rows_under h) ≤ limits.rows
+  pub header : IsHeaderWithin limits.columns h.names
+  pub even : IsOver (length h.names) h.rows
+  pub within_limit : length h.rows ≤ limits.rows
 
 -- the limits of a text whose dependencies are looked for
 abbrev pub discovered : Limits
 discovered = record { columns = WIDEST_HEADED; rows = MOST_HEADED_ROWS }
 
 -- the same, of such a text
-abbrev pub IsHeaded : List ℕ → Headed → Type 0
+abbrev pub IsHeaded : List ℕ → HeadedRows → Type 0
 IsHeaded text h = IsHeadedWithin discovered text h
 
 -- whether the row at a position is the record that has an open quote; the header is record 1

@@ -7,8 +7,9 @@ ghost use Rattle.headed_rows.specs.Headers.{NamesColumn, RefusesColumn, IsHeader
 use crate::HeaderRefusal;
 use csv::ByteRecord;
 use csv_rows::field;
-use dep_model::{Failure, Name, Naming, is_bare_name};
+use dep_model::Failure;
 use schema_grammar::Format;
+use schema_model::{Name, Naming, is_bare_name};
 use std::alloc::Global;
 use tokens::{is_reserved, position_among};
 

@@ -3,14 +3,15 @@ ghost use Rattle.csv.specs.Records.{fields_of};
 ghost use Rattle.csv_rows.specs.Records.{HasLeft};
 ghost use Rattle.dep_model.specs.Failures.{RefusesAs};
 ghost use Rattle.dep_model.specs.Tuples.{IsOver};
-ghost use Rattle.headed_rows.specs.Headings.{IsHeadedWithin, IsRefusedWithin, is_open_at, names_under, FitsRow, RefusesRow, RefusesRows, ReadsNames, RefusesNames};
+ghost use Rattle.headed_rows.specs.Headings.{headed_of, IsHeadedWithin, IsRefusedWithin, is_open_at, FitsRow, RefusesRow, RefusesRows, ReadsNames, RefusesNames};
 
 use crate::HeaderRefusal;
 use crate::columns::column_names;
 use csv::{ByteRecord, Reader};
 use csv_rows::{field, is_open, open_reader, open_record, take_record};
-use dep_model::{Failure, Name, OutOfMemory};
+use dep_model::{Failure, OutOfMemory};
 use row_store::{FlatValues, MOST_HEADED_ROWS, Rows};
+use schema_model::Name;
 use std::alloc::Global;
 
 /// How many columns and rows a text may have.
@@ -40,8 +41,8 @@ pub fn read_headed(
     text: &[u8],
 ) -> Result<Headed, Failure<HeaderRefusal>>
     requires rows { limits.rows ≤ MOST_HEADED_ROWS }
-    ensures ok { IfOk result (λ headed. IsHeadedWithin limits text.now headed) }
-    ensures any_name { IfOk result (λ headed. 0 < length (names_under headed)) }
+    ensures ok { IfOk result (λ headed. IsHeadedWithin limits text.now (headed_of headed)) }
+    ensures any_name { IfOk result (λ headed. 0 < length headed.names.items) }
     ensures err { IfErr result (RefusesAs (IsRefusedWithin limits text.now)) }
 {
     let unclosed = open_record(text);

@@ -2,8 +2,8 @@
 use Rattle.std.proofs.Common.{◌≡◌, ℕ, List, length, inl, inr, sym, ap, ◌∙◌, subst}
 use Rattle.std.proofs.lemmas.Bool.{true≢false}
 use Rattle.dep_model.specs.Dependencies.{Dependency}
-use Rattle.dep_model.specs.Schemas.{names_of, width_of, theory_of, naming_of}
-use Rattle.dep_model.specs.declared.schema.Schema.{Schema}
+use Rattle.schema_model.specs.Schemas.{names_of, width_of, theory_of, naming_of}
+use Rattle.schema_model.specs.Schemas.{Schema}
 use Rattle.min_cover.specs.Covers.{HaveSameLegal}
 use Rattle.schema_match.specs.Columns.{IsDeclaredBy, SameNames}
 use Rattle.desk_responses.specs.ResponseValues.{ResponseValue}

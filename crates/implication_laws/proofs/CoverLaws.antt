@@ -1,7 +1,7 @@
 -- What `cover` prints is answered as its schema is.
 use Rattle.std.proofs.Common.{List}
 use Rattle.dep_model.specs.Dependencies.{Dependency}
-use Rattle.dep_model.specs.declared.schema.Schema.{Schema}
+use Rattle.schema_model.specs.Schemas.{Schema}
 use Rattle.schema_printer.specs.Printing.{schema_text}
 use Rattle.desk_covers.specs.Covering.{GivesCover}
 use Rattle.desk_responses.specs.ResponseValues.{ResponseValue, Says}

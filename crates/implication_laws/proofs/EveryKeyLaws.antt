@@ -5,8 +5,8 @@ use Rattle.std.proofs.lemmas.Bool.Decides.{nat_tests}
 use Rattle.attr_sets.specs.Attributes.{Attributes, below, only, difference, IsSubset}
 use Rattle.dep_model.specs.Dependencies.{Dependency}
 use Rattle.dep_model.specs.Keys.{IsKey, IsSuperkey}
-use Rattle.dep_model.specs.Schemas.{width_of, theory_of, universe_of}
-use Rattle.dep_model.specs.declared.schema.Schema.{Schema}
+use Rattle.schema_model.specs.Schemas.{width_of, theory_of, universe_of}
+use Rattle.schema_model.specs.Schemas.{Schema}
 use Rattle.dep_model.proofs.KeyLemmas.{superkey_more}
 use Rattle.key_listing.proofs.NarrowingLemmas.{in_every_key_in_superkey}
 use Rattle.desk_keys.specs.KeyReasons.{InEveryKey}

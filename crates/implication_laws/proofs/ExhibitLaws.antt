@@ -7,14 +7,13 @@ use Rattle.attr_sets.specs.Attributes.{below, only, IsSubset}
 use Rattle.csv_text.specs.Rows.{rows_text}
 use Rattle.dep_model.specs.Dependencies.{Dependency, is_fd, left_of, right_of, Obeys, IsWithin}
 use Rattle.dep_model.specs.Implication.{Implies}
-use Rattle.dep_model.specs.Schemas.{names_of, width_of, theory_of, universe_of, LegalFor, ImpliedBy, naming_of}
+use Rattle.schema_model.specs.Schemas.{names_of, width_of, theory_of, universe_of, LegalFor, ImpliedBy, naming_of}
 use Rattle.dep_model.specs.Tuples.{Relation}
-use Rattle.dep_model.specs.declared.schema.Schema.{Schema}
+use Rattle.schema_model.specs.Schemas.{Schema}
 use Rattle.dep_model.proofs.ImplicationLemmas.{legal_for_implied}
 use Rattle.dep_model.proofs.PreservationLemmas.{fd-obeys, fd-obeyed}
 use Rattle.fd_closure.proofs.ClosedSets.{all_functional}
-use Rattle.headed_rows.specs.Headings.{names_under, rows_under}
-use Rattle.headed_rows.specs.declared.headed_rows.Headed.{Headed}
+use Rattle.headed_rows.specs.Headings.{HeadedRows}
 use Rattle.min_cover.specs.Covers.{HaveSameLegal}
 use Rattle.schema_match.proofs.MatchLemmas.{theory_within}
 use Rattle.desk_discovery.specs.Discoveries.{AreRulesOf, FindsRules, RefusesRules, found_text}
@@ -80,7 +79,7 @@ goal_decides schema rows goal d decided example is within functional (inr (e, al
           says-status Yes _ decided found.4,
     )
     by (inr (broken, found)) = (
-      λ says_yes. absurd (no_not_yes decided says_yes (says-status No _ decided found.2)),
+      λ says_yes. absurd (no_not_yes decided says_yes (says-status No _ decided found.3)),
       λ obeys. absurd (broken (obeyed_implied schema rows d example within functional obeys)),
     )
 
@@ -124,9 +123,9 @@ rules_same schema rows ds example rules r = (
   legal_for_implied (width_of schema) (theory_of schema) ds r (rules_implied schema rows ds example rules),
 )
 
-found_alike : (schema : Schema) (rows : Relation) (file : List ℕ) (headed : Headed) (found : ResponseValue)
-    → IsExample schema rows → names_under headed ≡ names_of schema → rows_under headed ≡ rows
-    → FindsRules file headed found → RefusesRules (length (names_under headed)) file headed found
+found_alike : (schema : Schema) (rows : Relation) (file : List ℕ) (headed : HeadedRows) (found : ResponseValue)
+    → IsExample schema rows → headed.names ≡ names_of schema → headed.rows ≡ rows
+    → FindsRules file headed found → RefusesRules (length headed.names) file headed found
     ⊎ ((ds : List Dependency) × Says Yes (found_text (names_of schema) ds) found × AnswersAlikeWith schema ds)
 found_alike schema rows file headed found example names read (inr refused) = inl refused
 found_alike schema rows file headed found example names read (inl (ds, rules, says)) = inr (
@@ -134,13 +133,13 @@ found_alike schema rows file headed found example names read (inl (ds, rules, sa
   subst (λ (declared : List (List ℕ)). Says Yes (found_text declared ds) found) names says,
   alike_with schema ds (rules_same schema rows ds example
       (subst (λ (r : Relation). AreRulesOf (width_of schema) r ds) read
-      (subst (λ (declared : List (List ℕ)). AreRulesOf (length declared) (rows_under headed) ds) names rules))),
+      (subst (λ (declared : List (List ℕ)). AreRulesOf (length declared) headed.rows ds) names rules))),
 )
 
 pub rules_alike : (schema : Schema) (shown : ResponseValue) → Exhibits schema shown → shown.status ≡ Yes
     → (rows : Relation) × Says Yes (rows_text (names_of schema) rows) shown
-    × ((file : List ℕ) (headed : Headed) (found : ResponseValue) → names_under headed ≡ names_of schema
-    → rows_under headed ≡ rows → FindsRules file headed found → RefusesRules (length (names_under headed)) file headed found
+    × ((file : List ℕ) (headed : HeadedRows) (found : ResponseValue) → headed.names ≡ names_of schema
+    → headed.rows ≡ rows → FindsRules file headed found → RefusesRules (length headed.names) file headed found
     ⊎ ((ds : List Dependency) × Says Yes (found_text (names_of schema) ds) found × AnswersAlikeWith schema ds))
 rules_alike schema shown exhibits says_yes =
     let (rows, example, says) = shown_example schema shown exhibits says_yes in

@@ -8,12 +8,12 @@ use Rattle.std.proofs.lemmas.List.Sums.{AllPass-from_list_all}
 use Rattle.attr_sets.specs.Attributes.{none}
 use Rattle.dep_model.specs.Dependencies.{Dependency}
 use Rattle.dep_model.specs.Deps.{dependency_of}
-use Rattle.dep_model.specs.Names.{IsName, is_bare_name}
-use Rattle.dep_model.specs.Schemas.{names_of, naming_of, types_of, nullable_of, deps_of, theory_of}
-use Rattle.dep_model.specs.declared.column_type.ColumnType.TheVariants.{Text}
-use Rattle.dep_model.specs.declared.naming.Naming.{Naming}
-use Rattle.dep_model.specs.declared.naming.Naming.TheVariants.{Bare, Any}
-use Rattle.dep_model.specs.declared.schema.Schema.{Schema}
+use Rattle.schema_model.specs.Names.{IsName, is_bare_name}
+use Rattle.schema_model.specs.Schemas.{names_of, naming_of, types_of, nullable_of, deps_of, theory_of}
+use Rattle.schema_model.specs.declared.column_type.ColumnType.TheVariants.{Text}
+use Rattle.schema_model.specs.declared.naming.Naming.{Naming}
+use Rattle.schema_model.specs.declared.naming.Naming.TheVariants.{Bare, Any}
+use Rattle.schema_model.specs.Schemas.{Schema}
 use Rattle.headed_rows.specs.Headers.{IsColumnHeader, is_plain_name, naming_under}
 use Rattle.schema_grammar.specs.Declarations.{Declarations}
 use Rattle.schema_grammar.specs.Printed.{IsReadBack}

@@ -1,9 +1,9 @@
 -- A goal is read as one dependency, or refused; the status of an answer is that of the allowed one.
 use Rattle.std.proofs.Common.{◌≡◌, ℕ, List, Ok, Err, inl, inr, sym, ap, ◌∙◌, subst, arith}
 use Rattle.dep_model.specs.Dependencies.{Dependency, IsWithin}
-use Rattle.dep_model.specs.Schemas.{naming_of, names_of, universe_of}
-use Rattle.dep_model.specs.declared.naming.Naming.{Naming}
-use Rattle.dep_model.specs.declared.schema.Schema.{Schema}
+use Rattle.schema_model.specs.Schemas.{naming_of, names_of, universe_of}
+use Rattle.schema_model.specs.declared.naming.Naming.{Naming}
+use Rattle.schema_model.specs.Schemas.{Schema}
 use Rattle.derivation.proofs.RuleTableLemmas.{the_ok}
 use Rattle.schema_grammar.specs.declared.format.Format.{Format}
 use Rattle.schema_grammar.specs.declared.format.Format.TheVariants as format

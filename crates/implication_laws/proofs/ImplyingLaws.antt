@@ -4,9 +4,9 @@ use Rattle.std.specs.Prelude.{Contains, length}
 use Rattle.std.proofs.lemmas.List.Elements.{All-weaker, All-contains, All-contains_itself}
 use Rattle.dep_model.specs.Dependencies.{Dependency, Obeys}
 use Rattle.dep_model.specs.Implication.{IsLegal, Implies}
-use Rattle.dep_model.specs.Schemas.{names_of, width_of, theory_of, ImpliedBy, naming_of}
+use Rattle.schema_model.specs.Schemas.{names_of, width_of, theory_of, ImpliedBy, naming_of}
 use Rattle.dep_model.specs.Tuples.{Relation}
-use Rattle.dep_model.specs.declared.schema.Schema.{Schema}
+use Rattle.schema_model.specs.Schemas.{Schema}
 use Rattle.derivation.specs.Trees.{Tree}
 use Rattle.desk_responses.specs.ResponseValues.{ResponseValue}
 use Rattle.desk_responses.specs.declared.status.Status.TheVariants.{Yes, No, Refused}
@@ -56,7 +56,7 @@ decided-status schema other d first second there back (inl (implied, found)) (in
 decided-status schema other d first second there back (inr (broken, found)) (inl (implied, printed)) =
     absurd (broken (back implied))
 decided-status schema other d first second there back (inr (broken, found)) (inr (also, printed)) =
-    same_status No _ _ first second found.2 printed.2
+    same_status No _ _ first second found.3 printed.3
 
 pub goals-status : (schema other : Schema) (goal : List ℕ) (first second : ResponseValue)
     → naming_of schema ≡ naming_of other → names_of schema ≡ names_of other
@@ -129,4 +129,4 @@ implied_obeyed schema goal rows decided judged (inl (implied, found)) says_yes (
 implied_obeyed schema goal rows decided judged (inl (implied, found)) says_yes (inl (broken, shown)) also_yes =
     absurd (no_not_yes judged also_yes (says-status No _ judged shown.2))
 implied_obeyed schema goal rows decided judged (inr (broken, found)) says_yes judges also_yes =
-    absurd (no_not_yes decided says_yes (says-status No _ decided found.2))
+    absurd (no_not_yes decided says_yes (says-status No _ decided found.3))

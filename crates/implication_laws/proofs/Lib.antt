@@ -1,4 +1,3 @@
-pub mod OrderedLists
 pub mod OneKey
 pub mod OneCover
 mod OneBasis
@@ -7,8 +6,9 @@ mod SameNamesLemmas
 pub mod GoalLemmas
 pub mod ImplyingLaws
 mod AlikeLaws
-mod CounterexampleLaws
 mod CoverLaws
+mod PartedLists
+mod MinimalLaws
 mod ExhibitLaws
 mod FoundLaws
 pub mod StepLaws

@@ -18,18 +18,17 @@ use Rattle.dep_basis.specs.Traces.{blocks_of}
 use Rattle.dep_model.specs.Dependencies.{Dependency, mvd, is_fd, functional_part}
 use Rattle.dep_model.specs.Keys.{IsKey}
 use Rattle.dep_model.specs.Plans.{schemes_of}
-use Rattle.dep_model.specs.Schemas.{names_of, width_of, theory_of, universe_of, types_of, naming_of}
+use Rattle.schema_model.specs.Schemas.{names_of, width_of, theory_of, universe_of, types_of, naming_of, theory_in}
 use Rattle.dep_model.specs.Tuples.{Relation}
-use Rattle.dep_model.specs.declared.schema.Schema.{Schema}
+use Rattle.schema_model.specs.Schemas.{Schema}
 use Rattle.derivation.specs.Trees.{Tree}
 use Rattle.derivation.proofs.ConclusionLemmas.{Proves-one}
 use Rattle.derivation.proofs.RuleTableLemmas.{the_ok}
 use Rattle.fd_closure.proofs.ClosedSets.{all_functional}
-use Rattle.headed_rows.specs.Headings.{names_under, rows_under}
-use Rattle.headed_rows.specs.declared.headed_rows.Headed.{Headed}
+use Rattle.headed_rows.specs.Headings.{HeadedRows}
 use Rattle.key_listing.specs.Listing.{AreAllKeys, AreManyKeys}
 use Rattle.key_listing.specs.declared.refusal.TheConstants.{MOST_KEYS}
-use Rattle.dep_model.specs.declared.naming.Naming.{Naming}
+use Rattle.schema_model.specs.declared.naming.Naming.{Naming}
 use Rattle.schema_grammar.specs.Sets.{MeansSet, read_set}
 use Rattle.schema_grammar.specs.declared.refusal.SchemaRefusal.{SchemaRefusal}
 use Rattle.schema_grammar.proofs.OneTextRefusal.{goal-refusal-law}
@@ -65,7 +64,7 @@ use Rattle.implication_laws.proofs.OneBasis.{one_closed, one_blocks}
 use Rattle.implication_laws.proofs.OneCover.{one_whole_cover}
 use Rattle.implication_laws.proofs.OneKey.{one_keys, before_one_way, ascends, each_key, key_listed}
 use Rattle.implication_laws.proofs.OneList.{one_differences, one_near_rules, one_row_keys, one_rules, one_small_rules, one_list_of_all}
-use Rattle.implication_laws.proofs.OrderedLists.{no_longer}
+use Rattle.dep_model.proofs.OrderedLists.{no_longer}
 use Rattle.implication_laws.proofs.StepLaws.{same_says, With-one, Unless-one, same_texts}
 use Rattle.typed_rows.specs.Shown.{shown_relation}
 use Rattle.typed_rows.specs.Typed.{typed_tuple}
@@ -132,7 +131,7 @@ one_checked schema tree goal one other (inr (unproved, (d, concluded, says))) (i
 one_checked schema tree goal one other (inr (unproved, (d, concluded, says))) (inr (also, (e, again, said))) =
     same_says No _ _ one other says said
     (ap (λ (f : Dependency). concludes_text (printed_names_of schema) f goal)
-    (Proves-one schema tree d e concluded again))
+    (Proves-one (theory_in schema) tree d e concluded again))
 
 pub one_certificate_answer : (schema : Schema) (tree : Tree) (goal : List ℕ) → AllowsOne (ChecksProof schema tree goal)
 one_certificate_answer schema tree goal =
@@ -303,51 +302,51 @@ one_same_answer schema other file other_file =
     (λ names. one_compared schema other file other_file)
 
 -- ---- discovered rules
-one_rules_given : (headed : Headed) → AllowsOne (GivesRules headed)
+one_rules_given : (headed : HeadedRows) → AllowsOne (GivesRules headed)
 one_rules_given headed one other (ds, rules, says) (es, also, said) =
     same_says Yes _ _ one other says said
-    (ap (found_text (names_under headed))
-    (one_rules (length (names_under headed)) (rows_under headed) ds es rules.minimal also.minimal))
+    (ap (found_text headed.names)
+    (one_rules (length headed.names) headed.rows ds es rules.minimal also.minimal))
 
-pub one_rules_answer : (file : List ℕ) (headed : Headed) (one other : ResponseValue) → FindsRules file headed one
-    → FindsRules file headed other → (one ≡ other) ⊎ (RefusesRules (length (names_under headed)) file headed one
-    ⊎ RefusesRules (length (names_under headed)) file headed other)
+pub one_rules_answer : (file : List ℕ) (headed : HeadedRows) (one other : ResponseValue) → FindsRules file headed one
+    → FindsRules file headed other → (one ≡ other) ⊎ (RefusesRules (length headed.names) file headed one
+    ⊎ RefusesRules (length headed.names) file headed other)
 one_rules_answer file headed one other (inl first) (inl second) = inl (one_rules_given headed one other first second)
 one_rules_answer file headed one other (inl first) (inr second) = inr (inr second)
 one_rules_answer file headed one other (inr first) second = inr (inl first)
 
-few_not_refused : (most : ℕ) (file : List ℕ) (headed : Headed) (response : ResponseValue)
-    → length (names_under headed) ≤ WIDEST_TRIED → RefusesRules most file headed response → ⊥
+few_not_refused : (most : ℕ) (file : List ℕ) (headed : HeadedRows) (response : ResponseValue)
+    → length headed.names ≤ WIDEST_TRIED → RefusesRules most file headed response → ⊥
 few_not_refused most file headed response few (refusal, many, says) = absurd (omega (arith, few, many.wide))
 
-pub few_rules_answer : (file : List ℕ) (headed : Headed) → length (names_under headed) ≤ WIDEST_TRIED
+pub few_rules_answer : (file : List ℕ) (headed : HeadedRows) → length headed.names ≤ WIDEST_TRIED
     → AllowsOne (FindsRules file headed)
 few_rules_answer file headed few one other (inl first) (inl second) = one_rules_given headed one other first second
-few_rules_answer file headed few one other (inl first) (inr second) = absurd (few_not_refused (length (names_under headed)) file headed other few second)
-few_rules_answer file headed few one other (inr first) second = absurd (few_not_refused (length (names_under headed)) file headed one few first)
+few_rules_answer file headed few one other (inl first) (inr second) = absurd (few_not_refused (length headed.names) file headed other few second)
+few_rules_answer file headed few one other (inr first) second = absurd (few_not_refused (length headed.names) file headed one few first)
 
 -- ---- all that holds
-pub one_whole_answer : (headed : Headed) → AllowsOne (FindsAllRules headed)
+pub one_whole_answer : (headed : HeadedRows) → AllowsOne (FindsAllRules headed)
 one_whole_answer headed one other (ds, rules, says) (es, also, said) =
     same_says Yes _ _ one other says said
-    (ap (found_text (names_under headed))
-    (one_list_of_all (length (names_under headed)) (rows_under headed) ds es rules.rules also.rules))
+    (ap (found_text headed.names)
+    (one_list_of_all (length headed.names) headed.rows ds es rules.rules also.rules))
 
 -- ---- few attributes on the left
-one_small_given : (most : ℕ) (headed : Headed) → AllowsOne (GivesSmallRules most headed)
+one_small_given : (most : ℕ) (headed : HeadedRows) → AllowsOne (GivesSmallRules most headed)
 one_small_given most headed one other (ds, rules, says) (es, also, said) =
     same_says Yes _ _ one other says said
-    (ap (found_text (names_under headed))
-    (one_small_rules (length (names_under headed)) most (rows_under headed) ds es rules also))
+    (ap (found_text headed.names)
+    (one_small_rules (length headed.names) most headed.rows ds es rules also))
 
-pub one_small_answer : (most : ℕ) (file : List ℕ) (headed : Headed) (one other : ResponseValue)
+pub one_small_answer : (most : ℕ) (file : List ℕ) (headed : HeadedRows) (one other : ResponseValue)
     → FindsSmallRules most file headed one → FindsSmallRules most file headed other
     → (one ≡ other) ⊎ (RefusesRules most file headed one ⊎ RefusesRules most file headed other)
 one_small_answer most file headed one other (inl first) (inl second) = inl (one_small_given most headed one other first second)
 one_small_answer most file headed one other (inl first) (inr second) = inr (inr second)
 one_small_answer most file headed one other (inr first) second = inr (inl first)
 
-pub few_small_answer : (most : ℕ) (file : List ℕ) (headed : Headed) → length (names_under headed) ≤ WIDEST_TRIED
+pub few_small_answer : (most : ℕ) (file : List ℕ) (headed : HeadedRows) → length headed.names ≤ WIDEST_TRIED
     → AllowsOne (FindsSmallRules most file headed)
 few_small_answer most file headed few one other (inl first) (inl second) = one_small_given most headed one other first second
 few_small_answer most file headed few one other (inl first) (inr second) =
@@ -355,13 +354,13 @@ few_small_answer most file headed few one other (inl first) (inr second) =
 few_small_answer most file headed few one other (inr first) second = absurd (few_not_refused most file headed one few first)
 
 -- ---- keys of rows
-one_row_keys_given : (headed : Headed) → AllowsOne (GivesRowKeys headed)
+one_row_keys_given : (headed : HeadedRows) → AllowsOne (GivesRowKeys headed)
 one_row_keys_given headed one other (keys, are, says) (others, also, said) =
     same_says Yes _ _ one other says said
-    (ap (row_keys_text (names_under headed))
-    (one_row_keys (length (names_under headed)) (rows_under headed) keys others are also))
+    (ap (row_keys_text headed.names)
+    (one_row_keys (length headed.names) headed.rows keys others are also))
 
-pub one_row_keys_answer : (file : List ℕ) (headed : Headed) (one other : ResponseValue)
+pub one_row_keys_answer : (file : List ℕ) (headed : HeadedRows) (one other : ResponseValue)
     → FindsRowKeys file headed one → FindsRowKeys file headed other
     → (one ≡ other) ⊎ (RefusesRowKeys file headed one ⊎ RefusesRowKeys file headed other)
 one_row_keys_answer file headed one other (inl first) (inl second) = inl (one_row_keys_given headed one other first second)
@@ -379,15 +378,15 @@ same_first n most limit rows p q one other = elim (cases_order p.right q.right) 
   ]
 ]
 
-pub one_near_answer : (limit most : ℕ) (file : List ℕ) (headed : Headed) → AllowsOne (FindsNearRules limit most file headed)
+pub one_near_answer : (limit most : ℕ) (file : List ℕ) (headed : HeadedRows) → AllowsOne (FindsNearRules limit most file headed)
 one_near_answer limit most file headed one other (inl (ds, es, rules, whole, says)) (inl (fs, gs, also, too, said)) =
-    let same = one_near_rules (length (names_under headed)) most limit (rows_under headed) ds fs es gs rules also in
+    let same = one_near_rules (length headed.names) most limit headed.rows ds fs es gs rules also in
     same_says Yes _ _ one other says said
-    (ap (λ (l : List Dependency). near_text (names_under headed) l es) same.0 ∙ ap (near_text (names_under headed) fs) same.1)
+    (ap (λ (l : List Dependency). near_text headed.names l es) same.0 ∙ ap (near_text headed.names fs) same.1)
 one_near_answer limit most file headed one other (inl (ds, es, rules, whole, says)) (inr (refusal, is, said)) =
     absurd (whole refusal.right is.right is.exceeds)
 one_near_answer limit most file headed one other (inr (refusal, is, says)) (inl (ds, es, rules, whole, said)) =
     absurd (whole refusal.right is.right is.exceeds)
 one_near_answer limit most file headed one other (inr (p, is, says)) (inr (q, also, said)) =
     same_says Refused _ _ one other says said
-    (ap (left_sides_text file (names_under headed)) (same_first (length (names_under headed)) most limit (rows_under headed) p q is also))
+    (ap (left_sides_text file headed.names) (same_first (length headed.names) most limit headed.rows p q is also))

@@ -14,7 +14,8 @@ use Rattle.dep_basis.proofs.BlockLemmas.{blocks_same}
 use Rattle.dep_model.specs.Dependencies.{Dependency, fd, mvd}
 use Rattle.dep_model.specs.Keys.{InClosure, IsBlock}
 use Rattle.dep_model.specs.Plans.{schemes_of}
-use Rattle.implication_laws.proofs.OrderedLists.{HoldsAll, IsOneWay, one_ordered_list, AllPairs-map, Any-image}
+use Rattle.dep_model.proofs.OrderedLists.{HoldsAll, IsOneWay, one_ordered_list, Any-image}
+use Rattle.dep_model.proofs.PairLemmas.{pairs_map}
 
 -- ---- blocks in their order
 -- a block has a first attribute
@@ -56,8 +57,8 @@ one_blocks n ds x one other first second =
     (schemes_of (blocks_of other)) (blocks_one_way n ds x)
     (All-map (IsBlock n ds x) attributes (blocks_of one) first.each)
     (All-map (IsBlock n ds x) attributes (blocks_of other) second.each)
-    (AllPairs-map BeginsBefore attributes (blocks_of one) first.listed.in_order)
-    (AllPairs-map BeginsBefore attributes (blocks_of other) second.listed.in_order)
+    (pairs_map BeginsBefore attributes (blocks_of one) first.listed.in_order)
+    (pairs_map BeginsBefore attributes (blocks_of other) second.listed.in_order)
     (blocks_held n ds x one other first second) (blocks_held n ds x other one second first)
 
 -- ---- refutations

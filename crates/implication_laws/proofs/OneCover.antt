@@ -1,10 +1,10 @@
 -- A list of dependencies has one fixed cover, and one fixed whole cover.
-use Rattle.std.proofs.Common.{◌≡◌, ◌+◌, ℕ, List, [], ◌∷◌, ◌++◌, refl, sym, subst, ap, ◌∙◌, inl, inr, arith}
-use mathlib.Core.Path.{fun_ext}
+use Rattle.std.proofs.Common.{◌≡◌, ◌+◌, ℕ, List, [], ◌∷◌, ◌++◌, refl, sym, subst, ap, ◌∙◌, inl, inr}
 use Rattle.std.specs.List.{AllZip, flat_map}
 use Rattle.attr_sets.specs.Attributes.{Attributes}
-use Rattle.dep_model.specs.Dependencies.{Dependency, fd, left_of, right_of}
-use Rattle.cover_accounts.proofs.MemberLemmas.{shorts_agree}
+use Rattle.attr_sets.proofs.NarrowingLemmas.{one_narrowed_ascending}
+use Rattle.dep_model.specs.Dependencies.{Dependency, fd, functional_part, left_of, right_of}
+use Rattle.dep_model.specs.Implication.{Implies}
 use Rattle.min_cover.specs.Covers.{IsThinned, IsFixedCover, IsFixedWholeCover, multivalued_part}
 use Rattle.min_cover.specs.Members.{members_of, IsLeftReducedDependency}
 
@@ -12,9 +12,8 @@ use Rattle.min_cover.specs.Members.{members_of, IsLeftReducedDependency}
 one_short : (n : ℕ) (ds : List Dependency) (d e f : Dependency) → IsLeftReducedDependency n ds d e
     → IsLeftReducedDependency n ds d f → e ≡ f
 one_short n ds d e f (one, is, first) (other, also, second) =
-    let same : one ≡ other =
-    fun_ext (λ (i : ℕ). shorts_agree n ds (left_of d) (right_of d) one other first second (i + 1) i
-    (omega arith)) in
+    let same : one ≡ other = one_narrowed_ascending (λ left. Implies n (functional_part ds) (fd left (right_of d))) (left_of d) (left_of d)
+    one other first second in
     is ∙ ap (λ (x : Attributes). fd x (right_of d)) same ∙ sym also
 
 one_list : (n : ℕ) (ds firsts es fs : List Dependency) → AllZip (IsLeftReducedDependency n ds) firsts es

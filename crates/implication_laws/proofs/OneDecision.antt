@@ -2,8 +2,8 @@
 use Rattle.std.proofs.Common.{◌≡◌, ℕ, List, ◌++◌, inl, inr, sym, ap, ◌∙◌, subst}
 use Rattle.attr_sets.specs.Attributes.{Attributes}
 use Rattle.dep_model.specs.Dependencies.{Dependency, fd, mvd}
-use Rattle.dep_model.specs.Schemas.{names_of, width_of, theory_of, naming_of}
-use Rattle.dep_model.specs.declared.schema.Schema.{Schema}
+use Rattle.schema_model.specs.Schemas.{names_of, width_of, theory_of, naming_of, theory_in}
+use Rattle.schema_model.specs.Schemas.{Schema}
 use Rattle.derivation.specs.Derivs.{tree_of}
 use Rattle.derivation.specs.Trees.{Tree}
 use Rattle.derivation.proofs.ChainLemmas.{chain_one}
@@ -20,9 +20,9 @@ use Rattle.implication_laws.proofs.GoalLemmas.{says-status, one_goal, goal_goes}
 use Rattle.implication_laws.proofs.OneBasis.{one_refuted}
 use Rattle.implication_laws.proofs.StepLaws.{same_says}
 
-one_tree : (schema : Schema) (d : Dependency) (t u : Tree) → HasFixedProof schema d → IsChainIfFunctional schema d t
-    → IsChainIfFunctional schema d u → IsDirectUnlessChain schema d t → IsDirectUnlessChain schema d u → t ≡ u
-one_tree schema (fd x y) t u fixed first second direct also = chain_one schema x y t u (first fixed) (second fixed)
+one_tree : (schema : Schema) (d : Dependency) (t u : Tree) → HasFixedProof schema d → IsChainIfFunctional (theory_in schema) d t
+    → IsChainIfFunctional (theory_in schema) d u → IsDirectUnlessChain (theory_in schema) d t → IsDirectUnlessChain (theory_in schema) d u → t ≡ u
+one_tree schema (fd x y) t u fixed first second direct also = chain_one (theory_in schema) x y t u (first fixed) (second fixed)
 one_tree schema (mvd x y) t u (k, is) first second direct also = direct.1 k is ∙ sym (also.1 k is)
 
 one_decided : (schema : Schema) (d : Dependency) (one other : ResponseValue)
@@ -35,7 +35,7 @@ one_decided schema d one other fixed (inl (implied, (proof, proves, chain, direc
     (one_tree schema d (tree_of proof) (tree_of deriv) (fixed (says-status Yes _ one says)) chain run direct.0 short.0))
 one_decided schema d one other fixed (inl (implied, found)) (inr (broken, shown)) = absurd (broken implied)
 one_decided schema d one other fixed (inr (broken, shown)) (inl (implied, found)) = absurd (broken implied)
-one_decided schema d one other fixed (inr (broken, (agreement, is, says))) (inr (also, (outside, shows, said))) =
+one_decided schema d one other fixed (inr (broken, (agreement, is, shown, says))) (inr (also, (outside, shows, also_shown, said))) =
     same_says No _ _ one other says said
     (ap (λ (x : Attributes). no_text (names_of schema) (shown_tuples schema x))
     (one_refuted (width_of schema) (theory_of schema) d agreement outside is shows))

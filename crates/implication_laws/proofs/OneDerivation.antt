@@ -1,7 +1,7 @@
 -- The answer about a derivation is one.
 use Rattle.std.proofs.Common.{ℕ, List, sym, ◌∙◌, inl, inr}
 use Rattle.dep_model.specs.Dependencies.{Dependency}
-use Rattle.dep_model.specs.declared.schema.Schema.{Schema}
+use Rattle.schema_model.specs.Schemas.{Schema}
 use Rattle.desk_implication.specs.Derivations.{DerivationChecked, ChecksDerivation}
 use Rattle.implication_laws.specs.OneAnswer.{AllowsOne}
 use Rattle.implication_laws.proofs.OneAnswer.{one_after_goal}

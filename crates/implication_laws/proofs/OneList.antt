@@ -8,7 +8,7 @@ use Rattle.attr_sets.specs.Attributes.{Attributes, IsBefore, IsFirstFrom}
 use Rattle.attr_sets.proofs.OrderLemmas.{IsBefore-irrefl, IsBefore-trans}
 use Rattle.dep_model.specs.Dependencies.{Dependency, left_of, right_of}
 use Rattle.dep_model.specs.Tuples.{Relation}
-use Rattle.dep_model.specs.declared.schema.Schema.{Schema}
+use Rattle.schema_model.specs.Schemas.{Schema}
 use Rattle.fd_discovery.specs.Minimal.{AreAllMinimal, IsMinimalFd, Precedes}
 use Rattle.fd_search.specs.Small.{AreAllSmall, IsSmallFd}
 use Rattle.min_cover.specs.Covers.{IsThinned}
@@ -20,7 +20,7 @@ use Rattle.fd_search.specs.Keys.{AreRowKeys, IsRowKey}
 use Rattle.schema_match.specs.Differences.{AreDifferences}
 use Rattle.implication_laws.proofs.OneCover.{one_thinned}
 use Rattle.implication_laws.proofs.OneKey.{before_one_way}
-use Rattle.implication_laws.proofs.OrderedLists.{HoldsAll, IsOneWay, one_ordered_list}
+use Rattle.dep_model.proofs.OrderedLists.{HoldsAll, IsOneWay, one_ordered_list}
 
 -- ---- differences
 numbers_one_way : (P : ℕ → Type 0) → IsOneWay P (λ (j k : ℕ). j < k)

@@ -4,8 +4,8 @@ use Rattle.std.specs.Prelude.{All, Contains, codes}
 use Rattle.std.specs.List.{flat_map}
 use Rattle.std.proofs.lemmas.List.Elements.{All-contains, All-head, All-tail, All-map, Contains-append_right}
 use Rattle.attr_sets.specs.Attributes.{Attributes}
-use Rattle.dep_model.specs.Schemas.{width_of, theory_of}
-use Rattle.dep_model.specs.declared.schema.Schema.{Schema}
+use Rattle.schema_model.specs.Schemas.{width_of, theory_of}
+use Rattle.schema_model.specs.Schemas.{Schema}
 use Rattle.dep_model.proofs.ListLemmas.{Contains-head, cons_parts}
 use Rattle.key_listing.specs.Listing.{AreAllKeys}
 use Rattle.schema_printer.specs.Spelling.{printed_names_of}

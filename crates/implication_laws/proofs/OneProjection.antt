@@ -4,8 +4,8 @@ use Rattle.std.specs.Prelude.{Contains}
 use Rattle.std.proofs.lemmas.List.Elements.{All-contains}
 use Rattle.attr_sets.specs.Attributes.{Attributes}
 use Rattle.dep_model.specs.Dependencies.{Dependency}
-use Rattle.dep_model.specs.Schemas.{names_of, width_of, theory_of, naming_of}
-use Rattle.dep_model.specs.declared.schema.Schema.{Schema}
+use Rattle.schema_model.specs.Schemas.{names_of, width_of, theory_of, naming_of}
+use Rattle.schema_model.specs.Schemas.{Schema}
 use Rattle.fd_projection.specs.Projections.{IsMinimalFd, Precedes, AreMinimalWithin, IsProjection}
 use Rattle.fd_projection.specs.Refusals.{AreTooMany}
 use Rattle.min_cover.specs.Covers.{IsThinned}
@@ -16,7 +16,7 @@ use Rattle.implication_laws.specs.OneAnswer.{AllowsOne}
 use Rattle.implication_laws.proofs.OneAnswer.{one_set_stop, set_goes, one_set}
 use Rattle.implication_laws.proofs.OneCover.{one_thinned}
 use Rattle.implication_laws.proofs.OneList.{precedes_one_way}
-use Rattle.implication_laws.proofs.OrderedLists.{HoldsAll, one_ordered_list, no_longer}
+use Rattle.dep_model.proofs.OrderedLists.{HoldsAll, one_ordered_list, no_longer}
 use Rattle.implication_laws.proofs.StepLaws.{same_says, With-one}
 
 held : (n : ℕ) (ds : List Dependency) (set : Attributes) (one other : List Dependency) → AreMinimalWithin n ds set one

@@ -4,8 +4,8 @@ use Rattle.attr_sets.specs.Attributes.{Attributes}
 use Rattle.attr_sets.proofs.AttributesLemmas.{same_from_within}
 use Rattle.cover_accounts.specs.Steps.{Placed, Shortened}
 use Rattle.cover_accounts.proofs.MemberLemmas.{one_account_members, one_account_gone}
-use Rattle.dep_model.specs.Schemas.{width_of, theory_of}
-use Rattle.dep_model.specs.declared.schema.Schema.{Schema}
+use Rattle.schema_model.specs.Schemas.{width_of, theory_of}
+use Rattle.schema_model.specs.Schemas.{Schema}
 use Rattle.schema_printer.specs.Spelling.{printed_names_of}
 use Rattle.desk_covers.specs.CoverReasons.{AreCoverReasons, ExplainsCover, members_text, all_gone_text}
 use Rattle.desk_covers.specs.Covering.{GivesCover}

@@ -15,8 +15,8 @@ use Rattle.cover_accounts.specs.declared.diagnostic.CoverDiagnostic.{CoverDiagno
 use Rattle.cover_accounts.specs.CoverDiagnostics.{IsCoverDiagnostic, IsBeforePlace, AreCoverDiagnostics, position_of, rank_of}
 use Rattle.dep_model.specs.Dependencies.{Dependency, fd}
 use Rattle.dep_model.specs.Keys.{InClosure}
-use Rattle.dep_model.specs.Schemas.{names_of, width_of, universe_of, theory_of, naming_of}
-use Rattle.dep_model.specs.declared.schema.Schema.{Schema}
+use Rattle.schema_model.specs.Schemas.{names_of, width_of, universe_of, theory_of, naming_of}
+use Rattle.schema_model.specs.Schemas.{Schema}
 use Rattle.dep_model.proofs.ListLemmas.{Contains-map, map-member}
 use Rattle.schema_match.specs.Columns.{SameNames}
 use Rattle.schema_printer.specs.Printing.{set_text}
@@ -33,8 +33,9 @@ use Rattle.implication_laws.specs.OneAnswer.{AllowsOne}
 use Rattle.implication_laws.proofs.OneAnswer.{one_set_stop, set_goes, one_set, one_name_stop}
 use Rattle.implication_laws.proofs.OneBasis.{one_refuted}
 use Rattle.implication_laws.proofs.OneList.{one_differences}
-use Rattle.implication_laws.proofs.OneKey.{one_key}
-use Rattle.implication_laws.proofs.OrderedLists.{HoldsAll, IsOneWay, one_ordered_list, AllPairs-map}
+use Rattle.dep_model.proofs.KeyLemmas.{one_greedy}
+use Rattle.dep_model.proofs.OrderedLists.{HoldsAll, IsOneWay, one_ordered_list}
+use Rattle.dep_model.proofs.PairLemmas.{pairs_map}
 use Rattle.implication_laws.proofs.AlikeLaws.{names_go}
 use Rattle.implication_laws.proofs.StepLaws.{same_says, With-one, Unless-one}
 
@@ -120,8 +121,8 @@ one_view_list : (n : ℕ) (ds : List Dependency) (x : Attributes) (one other : L
 one_view_list n ds x one other first second =
     one_ordered_list (IsView n ds x) (λ v w. v.0 < w.0) (map view one) (map view other) (views_one_way n ds x)
     (views_each n ds x one first) (views_each n ds x other second)
-    (AllPairs-map (λ (v : View) (w : View). v.0 < w.0) view one first.ascending)
-    (AllPairs-map (λ (v : View) (w : View). v.0 < w.0) view other second.ascending)
+    (pairs_map (λ (v : View) (w : View). v.0 < w.0) view one first.ascending)
+    (pairs_map (λ (v : View) (w : View). v.0 < w.0) view other second.ascending)
     (views_held n ds x one other first second) (views_held n ds x other one second first)
 
 abbrev view_text : List (List ℕ) → View → List ℕ
@@ -160,7 +161,7 @@ one_within_text : (s : Schema) (x : Attributes) (text other : List ℕ) → HasK
 one_within_text s x text other first second =
     first.reads
     ∙ ap (key_within_text (printed_names_of s) x)
-    (one_key (width_of s) (theory_of s) x first.key second.key first.superkey.within.0 first.greedy second.greedy)
+    (one_greedy (width_of s) (width_of s) (theory_of s) x first.key second.key first.superkey.within.0 first.greedy second.greedy)
     ∙ sym second.reads
 
 one_tested_key : (s : Schema) (x : Attributes) → AllowsOne (TestsKey s x)

@@ -12,10 +12,10 @@ use Rattle.std.proofs.lemmas.Slice.Eq.{bytes_eq-Decides}
 use Rattle.attr_sets.specs.Attributes.{Attributes, IsSubset}
 use Rattle.dep_model.specs.Dependencies.{Dependency, fd, mvd, IsWithin}
 use Rattle.dep_model.specs.Implication.{IsLegal}
-use Rattle.dep_model.specs.Names.{same_name}
-use Rattle.dep_model.specs.Schemas.{names_of, width_of, theory_of, universe_of, attribute_named, ImpliedBy}
+use Rattle.schema_model.specs.Names.{same_name}
+use Rattle.schema_model.specs.Schemas.{names_of, width_of, theory_of, universe_of, attribute_named, ImpliedBy}
 use Rattle.dep_model.specs.Tuples.{Relation}
-use Rattle.dep_model.specs.declared.schema.Schema.{Schema}
+use Rattle.schema_model.specs.Schemas.{Schema}
 use Rattle.min_cover.specs.Covers.{HaveSameLegal}
 use Rattle.schema_match.specs.Carried.{carry_attributes, carry_dependency, IsImpliedBy}
 use Rattle.schema_match.specs.Columns.{name_of_attribute, IsDeclaredBy, SameNames}

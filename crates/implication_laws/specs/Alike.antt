@@ -2,7 +2,7 @@
 -- `discover` and the order of lines. `Desk` does not cite it.
 use Rattle.std.specs.Prelude.{◌≡◌, ℕ, List}
 use Rattle.dep_model.specs.Dependencies.{Dependency}
-use Rattle.dep_model.specs.declared.schema.Schema.{Schema}
+use Rattle.schema_model.specs.Schemas.{Schema}
 use Rattle.desk_implication.specs.Implication.{DecidesGoal}
 use Rattle.desk_covers.specs.Sameness.{SayTheSame, ChecksSame}
 use Rattle.desk_responses.specs.ResponseValues.{ResponseValue}

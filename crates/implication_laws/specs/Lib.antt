@@ -1,6 +1,6 @@
 -- The definitions of implication_laws, in reading order: schemas whose dependencies are written otherwise, what
--- it is that they answer alike, that one answer alone is allowed, and what rows show.
+-- it is that they answer alike, when a schema is minimal, and that one answer alone is allowed.
 pub mod Rewriting
 pub mod Alike
+pub mod Minimality
 pub mod OneAnswer
-pub mod Counterexamples

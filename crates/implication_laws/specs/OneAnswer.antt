@@ -3,8 +3,8 @@
 use Rattle.std.specs.Prelude.{◌≡◌, ℕ}
 use Rattle.dep_model.specs.Dependencies.{Dependency, fd, mvd, functional_part}
 use Rattle.dep_model.specs.Implication.{Implies}
-use Rattle.dep_model.specs.Schemas.{width_of, theory_of}
-use Rattle.dep_model.specs.declared.schema.Schema.{Schema}
+use Rattle.schema_model.specs.Schemas.{width_of, theory_of, theory_in}
+use Rattle.schema_model.specs.Schemas.{Schema}
 use Rattle.basis_proofs.specs.Proofs.{IsFirstGiven}
 use Rattle.desk_responses.specs.ResponseValues.{ResponseValue, Allowed}
 
@@ -16,4 +16,4 @@ AllowsOne allowed = (one other : ResponseValue) → allowed one → allowed othe
 -- multivalued dependency that is given
 abbrev pub HasFixedProof : Schema → Dependency → Type 0
 HasFixedProof s (fd x y) = Implies (width_of s) (functional_part (theory_of s)) (fd x y)
-HasFixedProof s (mvd x y) = (k : ℕ) × IsFirstGiven s (mvd x y) k
+HasFixedProof s (mvd x y) = (k : ℕ) × IsFirstGiven (theory_in s) (mvd x y) k

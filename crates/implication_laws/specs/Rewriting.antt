@@ -2,8 +2,8 @@
 -- `cover`. `Desk` does not cite it.
 use Rattle.std.specs.Prelude.{◌≡◌, ◌↔◌, List, Contains}
 use Rattle.dep_model.specs.Dependencies.{Dependency}
-use Rattle.dep_model.specs.Schemas.{naming_of, names_of, theory_of}
-use Rattle.dep_model.specs.declared.schema.Schema.{Schema}
+use Rattle.schema_model.specs.Schemas.{naming_of, names_of, theory_of}
+use Rattle.schema_model.specs.Schemas.{Schema}
 
 -- two schemas with the same names, written alike, and with the same dependencies in any order
 pub record HaveSameDependencies (schema other : Schema) : Type 0 where

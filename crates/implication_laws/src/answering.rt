@@ -4,9 +4,8 @@ ghost use Rattle.std.specs.Prelude.{◌≡◌, ◌≤◌, ◌⊎◌, ℕ, List, 
 ghost use Rattle.attr_sets.specs.Attributes.{Attributes};
 ghost use Rattle.derivation.specs.Trees.{Tree};
 ghost use Rattle.dep_model.specs.Dependencies.{Dependency};
-ghost use Rattle.dep_model.specs.declared.schema.Schema.{Schema};
-ghost use Rattle.headed_rows.specs.Headings.{names_under};
-ghost use Rattle.headed_rows.specs.declared.headed_rows.Headed.{Headed};
+ghost use Rattle.schema_model.specs.Schemas.{Schema};
+ghost use Rattle.headed_rows.specs.Headings.{HeadedRows};
 ghost use Rattle.desk_implication.specs.Bases.{GivesBasis};
 ghost use Rattle.desk_implication.specs.Certificates.{ChecksProof};
 ghost use Rattle.desk_implication.specs.Closures.{GivesClosure};
@@ -107,37 +106,37 @@ pub fn check_same_has_one_answer()
 /// Any two answers of `discover` are equal, or one of them is the refusal of a column that has too many left
 /// sides. Rows of few columns are never refused so: there it has one answer.
 pub fn discover_has_one_answer()
-    ensures law { (file : List ℕ) (headed : Headed) (one other : ResponseValue)
+    ensures law { (file : List ℕ) (headed : HeadedRows) (one other : ResponseValue)
         → FindsRules file headed one → FindsRules file headed other
-        → (one ≡ other) ⊎ (RefusesRules (length (names_under headed)) file headed one
-        ⊎ RefusesRules (length (names_under headed)) file headed other) }
-    ensures few { (file : List ℕ) (headed : Headed) → length (names_under headed) ≤ WIDEST_TRIED
+        → (one ≡ other) ⊎ (RefusesRules (length headed.names) file headed one
+        ⊎ RefusesRules (length headed.names) file headed other) }
+    ensures few { (file : List ℕ) (headed : HeadedRows) → length headed.names ≤ WIDEST_TRIED
         → AllowsOne (FindsRules file headed) }
 {}
 
 /// The same with a bound on the left sides.
 pub fn discover_small_has_one_answer()
-    ensures law { (most : ℕ) (file : List ℕ) (headed : Headed) (one other : ResponseValue)
+    ensures law { (most : ℕ) (file : List ℕ) (headed : HeadedRows) (one other : ResponseValue)
         → FindsSmallRules most file headed one → FindsSmallRules most file headed other
         → (one ≡ other) ⊎ (RefusesRules most file headed one ⊎ RefusesRules most file headed other) }
-    ensures few { (most : ℕ) (file : List ℕ) (headed : Headed) → length (names_under headed) ≤ WIDEST_TRIED
+    ensures few { (most : ℕ) (file : List ℕ) (headed : HeadedRows) → length headed.names ≤ WIDEST_TRIED
         → AllowsOne (FindsSmallRules most file headed) }
 {}
 
 /// Any two answers of `discover keys` are equal, or one of them is the refusal of too many keys.
 pub fn discover_keys_has_one_answer()
-    ensures law { (file : List ℕ) (headed : Headed) (one other : ResponseValue)
+    ensures law { (file : List ℕ) (headed : HeadedRows) (one other : ResponseValue)
         → FindsRowKeys file headed one → FindsRowKeys file headed other
         → (one ≡ other) ⊎ (RefusesRowKeys file headed one ⊎ RefusesRowKeys file headed other) }
 {}
 
 /// `discover all` has one answer.
 pub fn discover_all_has_one_answer()
-    ensures law { (headed : Headed) → AllowsOne (FindsAllRules headed) }
+    ensures law { (headed : HeadedRows) → AllowsOne (FindsAllRules headed) }
 {}
 
 /// `discover near` has one answer.
 pub fn discover_near_has_one_answer()
-    ensures law { (limit most : ℕ) (file : List ℕ) (headed : Headed)
+    ensures law { (limit most : ℕ) (file : List ℕ) (headed : HeadedRows)
         → AllowsOne (FindsNearRules limit most file headed) }
 {}

@@ -3,9 +3,9 @@
 ghost use Rattle.std.specs.Prelude.{◌≡◌, ◌≤◌, ◌++◌, ℕ, List, length, replicate};
 ghost use Rattle.attr_sets.specs.Attributes.{none};
 ghost use Rattle.dep_model.specs.Dependencies.{Dependency};
-ghost use Rattle.dep_model.specs.Schemas.{theory_of};
-ghost use Rattle.dep_model.specs.declared.column_type.ColumnType.TheVariants.{Text};
-ghost use Rattle.dep_model.specs.declared.schema.Schema.{Schema};
+ghost use Rattle.schema_model.specs.Schemas.{theory_of};
+ghost use Rattle.schema_model.specs.declared.column_type.ColumnType.TheVariants.{Text};
+ghost use Rattle.schema_model.specs.Schemas.{Schema};
 ghost use Rattle.headed_rows.specs.Headers.{IsColumnHeader, naming_under};
 ghost use Rattle.schema_grammar.specs.Schemas.{MeansSchema};
 ghost use Rattle.schema_grammar.specs.declared.format.TheConstants.{MOST_DEPENDENCY_LINES};

@@ -3,11 +3,10 @@
 ghost use Rattle.std.specs.Prelude.{◌≡◌, ◌⊎◌, ◌↔◌, ℕ, true, List, length};
 ghost use Rattle.csv_text.specs.Rows.{rows_text};
 ghost use Rattle.dep_model.specs.Dependencies.{Dependency, Obeys, is_fd};
-ghost use Rattle.dep_model.specs.Schemas.{names_of, width_of, LegalFor};
+ghost use Rattle.schema_model.specs.Schemas.{names_of, width_of, LegalFor};
 ghost use Rattle.dep_model.specs.Tuples.{Relation};
-ghost use Rattle.dep_model.specs.declared.schema.Schema.{Schema};
-ghost use Rattle.headed_rows.specs.Headings.{names_under, rows_under};
-ghost use Rattle.headed_rows.specs.declared.headed_rows.Headed.{Headed};
+ghost use Rattle.schema_model.specs.Schemas.{Schema};
+ghost use Rattle.headed_rows.specs.Headings.{HeadedRows};
 ghost use Rattle.desk_discovery.specs.Discoveries.{FindsRules, RefusesRules, found_text};
 ghost use Rattle.desk_exhibits.specs.Exhibits.{Exhibits};
 ghost use Rattle.desk_arguments.specs.Goals.{IsGoal};
@@ -37,9 +36,9 @@ pub fn exhibits_decide_goals()
 pub fn rules_of_exhibits_are_answered_alike()
     ensures law { (schema : Schema) (shown : ResponseValue) → Exhibits schema shown → shown.status ≡ Yes
         → (rows : Relation) × Says Yes (rows_text (names_of schema) rows) shown
-        × ((file : List ℕ) (headed : Headed) (found : ResponseValue) → names_under headed ≡ names_of schema
-        → rows_under headed ≡ rows → FindsRules file headed found
-        → RefusesRules (length (names_under headed)) file headed found
+        × ((file : List ℕ) (headed : HeadedRows) (found : ResponseValue) → headed.names ≡ names_of schema
+        → headed.rows ≡ rows → FindsRules file headed found
+        → RefusesRules (length headed.names) file headed found
         ⊎ ((ds : List Dependency) × Says Yes (found_text (names_of schema) ds) found
         × AnswersAlikeWith schema ds)) }
 {}

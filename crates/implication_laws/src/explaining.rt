@@ -3,8 +3,8 @@
 ghost use Rattle.std.specs.Prelude.{◌<◌, ◌↔◌, ℕ};
 ghost use Rattle.attr_sets.specs.Attributes.{only, difference};
 ghost use Rattle.dep_model.specs.Keys.{IsSuperkey};
-ghost use Rattle.dep_model.specs.Schemas.{width_of, theory_of, universe_of};
-ghost use Rattle.dep_model.specs.declared.schema.Schema.{Schema};
+ghost use Rattle.schema_model.specs.Schemas.{width_of, theory_of, universe_of};
+ghost use Rattle.schema_model.specs.Schemas.{Schema};
 ghost use Rattle.desk_keys.specs.KeyReasons.{InEveryKey};
 
 /// What is in every key of a schema are exactly the attributes that all others do not determine.

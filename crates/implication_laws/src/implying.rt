@@ -1,20 +1,16 @@
 //! Laws of the answers to whether a schema implies a goal.
 
 ghost use Rattle.std.specs.Prelude.{◌≡◌, ℕ, List};
-ghost use Rattle.attr_sets.specs.Attributes.{Attributes};
 ghost use Rattle.derivation.specs.Trees.{Tree};
-ghost use Rattle.dep_basis.specs.Decisions.{IsBrokenBy};
 ghost use Rattle.dep_model.specs.Dependencies.{Dependency, Obeys};
-ghost use Rattle.dep_model.specs.Schemas.{theory_of, width_of};
+ghost use Rattle.schema_model.specs.Schemas.{width_of};
 ghost use Rattle.dep_model.specs.Tuples.{Relation};
-ghost use Rattle.dep_model.specs.declared.schema.Schema.{Schema};
+ghost use Rattle.schema_model.specs.Schemas.{Schema};
 ghost use Rattle.desk_implication.specs.Certificates.{ChecksProof};
 ghost use Rattle.desk_implication.specs.Implication.{Decided, DecidesGoal};
 ghost use Rattle.desk_tables.specs.Legality.{JudgesRows};
 ghost use Rattle.desk_responses.specs.ResponseValues.{ResponseValue};
 ghost use Rattle.desk_responses.specs.declared.status.Status.TheVariants.{Yes, No};
-ghost use Rattle.typed_rows.specs.Shown.{shown_tuples};
-ghost use Rattle.implication_laws.specs.Counterexamples.{IsCounterexample};
 ghost use Rattle.implication_laws.specs.Rewriting.{HaveSameDependencies};
 
 /// Two schemas with the same names and the same dependencies, in any order, answer a goal by the same
@@ -35,14 +31,6 @@ pub fn accepted_goals_are_implied()
         → HaveSameDependencies schema other → ChecksProof schema tree goal accepted
         → accepted.status ≡ Yes
         → DecidesGoal other goal decided → decided.status ≡ Yes }
-{}
-
-/// The rows that `implies` and `check key` show with a `no` have values of the columns' types, obey the
-/// schema, and break the goal.
-pub fn shown_rows_are_counterexamples()
-    ensures law { (schema : Schema) (goal : Dependency) (agreement : Attributes)
-        → IsBrokenBy (width_of schema) (theory_of schema) goal agreement
-        → IsCounterexample schema goal (shown_tuples schema agreement) }
 {}
 
 /// Rows that `check rows` calls legal obey each goal to which `implies` answers yes.

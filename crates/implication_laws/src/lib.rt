@@ -3,11 +3,12 @@
 //! Each law is a function that does nothing, whose clause is the law; so the gate asks for its
 //! proof.
 //!
-//! Promises: what one answer says another confirms; each command on implication has one answer, but
-//! for the derivation of a goal.
+//! Promises: what one answer says another confirms; `check cover` says yes to minimal covers alone; each
+//! command on implication has one answer, but for the derivation of a goal.
 #![tactic(auto)]
 
 mod answering;
+mod covering;
 mod discovering;
 mod exhibiting;
 mod explaining;
@@ -23,14 +24,14 @@ pub use answering::{
     discover_small_has_one_answer, exhibit_has_one_answer, explanations_have_one_answer,
     implies_has_one_answer, keys_has_one_answer, project_has_one_answer,
 };
+pub use covering::minimal_covers_are_confirmed;
 pub use discovering::found_texts_mean_their_schema;
 pub use exhibiting::{
     exhibits_are_legal, exhibits_decide_goals, rules_of_exhibits_are_answered_alike,
 };
 pub use explaining::undetermined_attributes_are_in_every_key;
 pub use implying::{
-    accepted_goals_are_implied, legal_rows_obey_implied_goals, shown_rows_are_counterexamples,
-    yes_and_no_exclude_each_other,
+    accepted_goals_are_implied, legal_rows_obey_implied_goals, yes_and_no_exclude_each_other,
 };
 pub use rewriting::{
     covers_are_answered_alike, line_order_is_free, same_legal_relations_are_answered_alike,

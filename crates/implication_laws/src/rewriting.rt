@@ -2,8 +2,8 @@
 
 ghost use Rattle.std.specs.Prelude.{◌≡◌, ℕ, List};
 ghost use Rattle.dep_model.specs.Dependencies.{Dependency};
-ghost use Rattle.dep_model.specs.Schemas.{naming_of, names_of, width_of, theory_of};
-ghost use Rattle.dep_model.specs.declared.schema.Schema.{Schema};
+ghost use Rattle.schema_model.specs.Schemas.{naming_of, names_of, width_of, theory_of};
+ghost use Rattle.schema_model.specs.Schemas.{Schema};
 ghost use Rattle.min_cover.specs.Covers.{HaveSameLegal};
 ghost use Rattle.schema_printer.specs.Printing.{schema_text};
 ghost use Rattle.desk_covers.specs.Covering.{GivesCover};

@@ -12,7 +12,7 @@ ghost use Rattle.dep_model.specs.Dependencies.{Dependency};
 ghost use Rattle.dep_model.specs.Keys.{IsGreedyKey};
 ghost use Rattle.dep_model.specs.Plans.{schemes_of};
 ghost use Rattle.dep_model.specs.Tuples.{Relation};
-ghost use Rattle.dep_model.specs.declared.schema.Schema.{Schema};
+ghost use Rattle.schema_model.specs.Schemas.{Schema};
 ghost use Rattle.fd_discovery.specs.Minimal.{AreAllMinimal};
 ghost use Rattle.key_listing.specs.Listing.{AreAllKeys};
 ghost use Rattle.min_cover.specs.Covers.{IsFixedCover, IsFixedWholeCover};

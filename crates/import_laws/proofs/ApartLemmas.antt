@@ -1,8 +1,8 @@
 -- The names of the tables of a design differ, ASCII case aside, where those that are given are apart.
 use Rattle.std.proofs.Common.{◌≡◌, ◌<◌, ◌≤◌, ◌∙◌, ℕ, false, List, length, get_or, take, ap, subst, sym, arith, length-take-le}
 use Rattle.attr_sets.specs.declared.set.AttrSet.{AttrSet}
-use Rattle.dep_model.specs.Names.{same_name}
-use Rattle.dep_model.specs.declared.schema.Schema.{Schema}
+use Rattle.schema_model.specs.Names.{same_name}
+use Rattle.schema_model.specs.Schemas.{Schema}
 use Rattle.plan_printer.specs.NamedPlans.{AreApart}
 use Rattle.table_names.specs.TableNames.{GivenNames, name_of_table}
 use Rattle.table_names.specs.declared.numbered.TheConstants.{MOST_TABLES}

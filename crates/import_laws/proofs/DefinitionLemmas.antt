@@ -4,9 +4,9 @@ use Rattle.std.specs.Prelude.{slice_get}
 use Rattle.std.proofs.lemmas.Bool.Decides.{nat_tests}
 use Rattle.std.proofs.lemmas.List.Elements.{All-weaker}
 use Rattle.attr_sets.specs.Sets.{attributes}
-use Rattle.dep_model.specs.Names.{same_name}
-use Rattle.dep_model.specs.Schemas.{types_of}
-use Rattle.dep_model.specs.declared.schema.Schema.{Schema}
+use Rattle.schema_model.specs.Names.{same_name}
+use Rattle.schema_model.specs.Schemas.{types_of}
+use Rattle.schema_model.specs.Schemas.{Schema}
 use Rattle.ddl_text.specs.Ddl.{ddl_text}
 use Rattle.ddl_text.specs.declared.table.TableDesign.{TableDesign}
 use Rattle.ddl_pieces.proofs.Statements.{tables_created}

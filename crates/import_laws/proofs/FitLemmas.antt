@@ -16,8 +16,8 @@ use Rattle.dep_model.proofs.SchemeLemmas.{length-members_below}
 use Rattle.dep_model.specs.Keys.{IsKey}
 use Rattle.dep_model.specs.Plans.{schemes_of}
 use Rattle.dep_model.specs.Projections.{members_below}
-use Rattle.dep_model.specs.Schemas.{names_of, nullable_of, theory_of, width_of}
-use Rattle.dep_model.specs.declared.schema.Schema.{Schema}
+use Rattle.schema_model.specs.Schemas.{names_of, nullable_of, theory_of, width_of}
+use Rattle.schema_model.specs.Schemas.{Schema}
 use Rattle.key_listing.specs.Listing.{AreAllKeys}
 use Rattle.key_listing.specs.declared.refusal.TheConstants.{MOST_KEYS}
 use Rattle.primary_keys.proofs.PrimaryLemmas.{primary_is_key}

@@ -13,10 +13,10 @@ use Rattle.attr_sets.proofs.AttributesLemmas.{is_disjoint-from, is_disjoint-true
 use Rattle.attr_sets.specs.Attributes.{Attributes, Disjoint, IsSubset, below}
 use Rattle.attr_sets.specs.Sets.{attributes, is_same}
 use Rattle.attr_sets.specs.declared.set.TheConstants.{MOST_ATTRIBUTES}
-use Rattle.dep_model.specs.Schemas.{names_of, nullable_of, types_of, width_of}
-use Rattle.dep_model.specs.declared.column_type.ColumnType.TheVariants as type
-use Rattle.dep_model.specs.declared.naming.Naming.TheVariants.{Any}
-use Rattle.dep_model.specs.declared.schema.Schema.{Schema}
+use Rattle.schema_model.specs.Schemas.{names_of, nullable_of, types_of, width_of}
+use Rattle.schema_model.specs.declared.column_type.ColumnType.TheVariants as type
+use Rattle.schema_model.specs.declared.naming.Naming.TheVariants.{Any}
+use Rattle.schema_model.specs.Schemas.{Schema}
 use Rattle.missing_values.specs.Missing.{NeverMissing}
 use Rattle.schema_grammar.specs.Schemas.{MeansSchema}
 use Rattle.ddl_text.specs.Ddl.{is_empty, is_never_missing}

@@ -10,8 +10,8 @@ use Rattle.attr_sets.specs.Sets.{is_same, is_subset}
 use Rattle.attr_sets.specs.declared.set.TheConstants.{MOST_ATTRIBUTES}
 use Rattle.dep_model.specs.Dependencies.{Dependency}
 use Rattle.dep_model.specs.Projections.{members_below}
-use Rattle.dep_model.specs.Schemas.{names_of, width_of}
-use Rattle.dep_model.specs.declared.schema.Schema.{Schema}
+use Rattle.schema_model.specs.Schemas.{names_of, width_of}
+use Rattle.schema_model.specs.Schemas.{Schema}
 use Rattle.schema_printer.specs.Printing.{members_from}
 use Rattle.schema_printer.proofs.MemberLemmas.{members_named}
 use Rattle.sql_lexemes.specs.declared.dialect.Dialect.{Dialect}

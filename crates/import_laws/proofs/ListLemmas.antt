@@ -2,7 +2,7 @@
 use Rattle.std.proofs.Common.{◌≡◌, ◌+◌, ◌&&◌, ℕ, true, false, All, List, [], ◌∷◌, ◌++◌, map, take, length, refl, sym, ap, ◌∙◌, Option, Some, Result, Ok, append-nil, append_assoc}
 use Rattle.std.proofs.lemmas.List.{map-append}
 use Rattle.std.proofs.lemmas.List.Elements.{All-head, All-tail}
-use Rattle.dep_model.specs.Names.{IsName}
+use Rattle.schema_model.specs.Names.{IsName}
 use Rattle.sql_syntax.specs.Names.{quoted_name}
 use Rattle.sql_lexemes.specs.declared.dialect.Dialect.{Dialect}
 use Rattle.sql_lexemes.specs.declared.lexeme.LexemeKind.TheVariants as kind

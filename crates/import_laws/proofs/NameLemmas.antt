@@ -2,7 +2,7 @@
 use Rattle.std.proofs.Common.{◌≡◌, ◌+◌, ◌-◌, ◌==◌, ℕ, Bool, true, false, cond, List, [], ◌∷◌, ◌++◌, length, take, refl, sym, ap, ◌∙◌, arith, Some, None, length-append}
 use Rattle.std.proofs.Math.Seq.{take-append_seam}
 use Rattle.std.proofs.lemmas.Bool.Decides.{nat_tests}
-use Rattle.dep_model.specs.Names.{IsName, quotes_doubled}
+use Rattle.schema_model.specs.Names.{IsName, quotes_doubled}
 use Rattle.lexer.proofs.Quoting.{name_test}
 use Rattle.lexer.specs.Quotes as quotes
 use Rattle.sql_syntax.specs.Names.{quoted_name}

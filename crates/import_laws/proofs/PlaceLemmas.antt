@@ -15,10 +15,10 @@ use Rattle.attr_sets.specs.Attributes.{Attributes, Disjoint, IsSubset, below, co
 use Rattle.attr_sets.specs.Sets.{is_same, is_subset}
 use Rattle.attr_sets.specs.declared.set.TheConstants.{MOST_ATTRIBUTES}
 use Rattle.dep_model.proofs.SchemeLemmas.{length-members_below, members_below-at, members_below-member, members_below-none, members_below-outside}
-use Rattle.dep_model.specs.Names.{same_name}
+use Rattle.schema_model.specs.Names.{same_name}
 use Rattle.dep_model.specs.Projections.{members_below}
-use Rattle.dep_model.specs.Schemas.{names_of, width_of}
-use Rattle.dep_model.specs.declared.schema.Schema.{Schema}
+use Rattle.schema_model.specs.Schemas.{names_of, width_of}
+use Rattle.schema_model.specs.Schemas.{Schema}
 use Rattle.sql_lexemes.specs.declared.dialect.Dialect.{Dialect}
 use Rattle.sql_definitions.specs.Facts.{StatedColumn}
 use Rattle.import_laws.specs.ImportedTables.{has, places_in}

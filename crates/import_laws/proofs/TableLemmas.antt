@@ -10,12 +10,12 @@ use Rattle.attr_sets.specs.Attributes.{Attributes}
 use Rattle.attr_sets.specs.Sets.{attributes}
 use Rattle.attr_sets.specs.declared.set.TheConstants.{MOST_ATTRIBUTES}
 use Rattle.dep_model.proofs.SchemeLemmas.{members_below-member, members_below-none, members_below-outside}
-use Rattle.dep_model.specs.Names.{IsName, same_name}
+use Rattle.schema_model.specs.Names.{IsName, same_name}
 use Rattle.dep_model.specs.Projections.{members_below}
-use Rattle.dep_model.specs.Schemas.{names_of, nullable_of, types_of, width_of}
-use Rattle.dep_model.specs.declared.column_type.ColumnType.TheVariants as type
-use Rattle.dep_model.specs.declared.schema.Schema.{Schema}
-use Rattle.dep_model.specs.declared.schema.TheConstants.{MOST_DEPENDENCIES}
+use Rattle.schema_model.specs.Schemas.{names_of, nullable_of, types_of, width_of}
+use Rattle.schema_model.specs.declared.column_type.ColumnType.TheVariants as type
+use Rattle.schema_model.specs.Schemas.{Schema}
+use Rattle.dep_model.specs.declared.theory.TheConstants.{MOST_DEPENDENCIES}
 use Rattle.schema_printer.specs.Printing.{members_from}
 use Rattle.ddl_text.specs.Ddl.{is_empty, is_never_missing}
 use Rattle.ddl_text.specs.Designs.{known_keys}

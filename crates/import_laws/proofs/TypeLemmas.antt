@@ -6,9 +6,9 @@ use Rattle.std.proofs.lemmas.Bool.{and_from, and_parts, not-true, true≢false}
 use Rattle.std.proofs.lemmas.Bool.Decides.{nat_tests}
 use Rattle.std.proofs.lemmas.Fmt.{decimal_digit}
 use Rattle.std.proofs.Math.Seq.{drop-append_seam, take-append_seam}
-use Rattle.dep_model.specs.Columns.{is_column_type}
-use Rattle.dep_model.specs.declared.column_type.ColumnType.{ColumnType}
-use Rattle.dep_model.specs.declared.column_type.ColumnType.TheVariants as type
+use Rattle.schema_model.specs.Columns.{is_column_type}
+use Rattle.schema_model.specs.declared.column_type.ColumnType.{ColumnType}
+use Rattle.schema_model.specs.declared.column_type.ColumnType.TheVariants as type
 use Rattle.sql_lexemes.specs.declared.dialect.Dialect.{Dialect}
 use Rattle.sql_lexemes.specs.declared.dialect.Dialect.TheVariants as dialect
 use Rattle.sql_lexemes.specs.Lexemes.{Lexed}

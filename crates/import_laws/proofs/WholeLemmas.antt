@@ -6,11 +6,11 @@ use Rattle.std.specs.List.{list_all, prefix_len}
 use Rattle.std.proofs.lemmas.Bool.{and_from, and_parts}
 use Rattle.std.proofs.lemmas.Bool.Decides.{nat_tests}
 use Rattle.std.proofs.lemmas.Fmt.{decimal_digit}
-use Rattle.dep_model.specs.Columns.{is_column_type}
-use Rattle.dep_model.specs.Names.{is_type_byte}
-use Rattle.dep_model.specs.declared.type_name.TheConstants.{MOST_TYPE_BYTES}
-use Rattle.dep_model.specs.declared.column_type.ColumnType.{ColumnType}
-use Rattle.dep_model.specs.declared.column_type.ColumnType.TheVariants as type
+use Rattle.schema_model.specs.Columns.{is_column_type}
+use Rattle.schema_model.specs.Names.{is_type_byte}
+use Rattle.schema_model.specs.declared.type_name.TheConstants.{MOST_TYPE_BYTES}
+use Rattle.schema_model.specs.declared.column_type.ColumnType.{ColumnType}
+use Rattle.schema_model.specs.declared.column_type.ColumnType.TheVariants as type
 use Rattle.sql_lexemes.specs.Bytes.{begins_word, is_number_byte, is_word_byte}
 use Rattle.sql_lexemes.specs.declared.lexeme.LexemeKind.{LexemeKind}
 use Rattle.sql_lexemes.specs.declared.lexeme.LexemeKind.TheVariants as kind

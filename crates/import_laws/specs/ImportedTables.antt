@@ -3,11 +3,11 @@ use Rattle.std.specs.Prelude.{ℕ, Bool, false, not, if◌then◌else◌, List, 
 use Rattle.attr_sets.specs.Attributes.{Attributes, below, difference}
 use Rattle.attr_sets.specs.Sets.{attributes, is_subset}
 use Rattle.dep_model.specs.Dependencies.{Dependency, fd}
-use Rattle.dep_model.specs.declared.column_type.ColumnType.TheVariants as type
-use Rattle.dep_model.specs.declared.naming.Naming.TheVariants.{Any}
-use Rattle.dep_model.specs.declared.schema.Schema.{Schema}
+use Rattle.schema_model.specs.declared.column_type.ColumnType.TheVariants as type
+use Rattle.schema_model.specs.declared.naming.Naming.TheVariants.{Any}
+use Rattle.schema_model.specs.Schemas.{Schema}
 use Rattle.dep_model.specs.Projections.{members_below}
-use Rattle.dep_model.specs.Schemas.{names_of, types_of, width_of}
+use Rattle.schema_model.specs.Schemas.{names_of, types_of, width_of}
 use Rattle.schema_grammar.specs.Declarations.{Declarations}
 use Rattle.ddl_text.specs.Ddl.{is_empty, is_never_missing}
 use Rattle.ddl_text.specs.Designs.{known_keys}

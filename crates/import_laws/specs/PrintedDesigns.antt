@@ -1,9 +1,9 @@
 -- The designs that `ddl` prints, of schemas whose types are stated by their texts: for the laws.
 use Rattle.std.specs.Prelude.{◌≤◌, IsTrue, List, length, All}
 use Rattle.attr_sets.specs.declared.set.AttrSet.{AttrSet}
-use Rattle.dep_model.specs.Names.{IsName}
-use Rattle.dep_model.specs.Schemas.{names_of, types_of, width_of}
-use Rattle.dep_model.specs.declared.schema.Schema.{Schema}
+use Rattle.schema_model.specs.Names.{IsName}
+use Rattle.schema_model.specs.Schemas.{names_of, types_of, width_of}
+use Rattle.schema_model.specs.Schemas.{Schema}
 use Rattle.plans.specs.Schemes.{AreSchemes}
 use Rattle.plan_printer.specs.NamedPlans.{AreApart}
 use Rattle.table_names.specs.TableNames.{GivenNames}

@@ -2,10 +2,10 @@
 use Rattle.std.specs.Prelude.{◌≡◌, ℕ, true, not, ◌&&◌, if◌then◌else◌, List, [], ◌∷◌, ◌++◌, map, filter, slice_index_or, Option, Some, None}
 use Rattle.attr_sets.specs.Attributes.{Attributes}
 use Rattle.attr_sets.specs.Sets.{attributes}
-use Rattle.dep_model.specs.declared.column_type.ColumnType.TheVariants as type
-use Rattle.dep_model.specs.declared.schema.Schema.{Schema}
+use Rattle.schema_model.specs.declared.column_type.ColumnType.TheVariants as type
+use Rattle.schema_model.specs.Schemas.{Schema}
 use Rattle.dep_model.specs.Projections.{members_below}
-use Rattle.dep_model.specs.Schemas.{names_of, nullable_of, types_of, width_of}
+use Rattle.schema_model.specs.Schemas.{names_of, nullable_of, types_of, width_of}
 use Rattle.schema_printer.specs.Printing.{members_from}
 use Rattle.ddl_text.specs.Ddl.{is_empty, is_never_missing}
 use Rattle.ddl_text.specs.Designs.{known_keys}

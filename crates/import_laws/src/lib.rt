@@ -9,11 +9,11 @@
 
 ghost use Rattle.std.specs.Prelude.{◌≡◌, ℕ, false, IsTrue, List, Ok, Some, slice_get};
 ghost use Rattle.attr_sets.specs.declared.set.AttrSet.{AttrSet};
-ghost use Rattle.dep_model.specs.Columns.{is_column_type};
-ghost use Rattle.dep_model.specs.declared.column_type.ColumnType.{ColumnType};
-ghost use Rattle.dep_model.specs.declared.column_type.ColumnType.TheVariants as type;
-ghost use Rattle.dep_model.specs.Schemas.{nullable_of};
-ghost use Rattle.dep_model.specs.declared.schema.Schema.{Schema};
+ghost use Rattle.schema_model.specs.Columns.{is_column_type};
+ghost use Rattle.schema_model.specs.declared.column_type.ColumnType.{ColumnType};
+ghost use Rattle.schema_model.specs.declared.column_type.ColumnType.TheVariants as type;
+ghost use Rattle.schema_model.specs.Schemas.{nullable_of};
+ghost use Rattle.schema_model.specs.Schemas.{Schema};
 ghost use Rattle.missing_values.specs.Missing.{NeverMissing};
 ghost use Rattle.schema_grammar.specs.Schemas.{MeansSchema};
 ghost use Rattle.table_names.specs.TableNames.{GivenNames};

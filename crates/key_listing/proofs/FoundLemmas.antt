@@ -5,7 +5,7 @@ use Rattle.std.proofs.lemmas.List.{length_push, length-map, get_or_default, get_
 use Rattle.std.proofs.lemmas.List.Elements.{All-push, All-contains, All-map, Contains-get_or}
 use Rattle.std.proofs.lemmas.List.Quantifiers.{all_pairs_push}
 use Rattle.std.proofs.lemmas.List.Sorted.{All-permutation, length_permutation}
-use Rattle.std.specs.Prelude.{All, AllPairs, Any, Contains}
+use Rattle.std.specs.Prelude.{All, Any, Contains}
 use Rattle.std.specs.List.Sorted.{IsSorted, IsPermutation}
 use Rattle.std.specs.Ordering.{nat_cmp}
 use Rattle.attr_sets.specs.declared.set.AttrSet.{AttrSet}

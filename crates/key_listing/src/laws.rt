@@ -8,8 +8,8 @@ ghost use Rattle.dep_model.specs.declared.dep.Dep.{Dep};
 ghost use Rattle.dep_model.specs.Dependencies.{Dependency};
 ghost use Rattle.dep_model.specs.Deps.{dependencies_of, IsDepWithin};
 ghost use Rattle.dep_model.specs.Keys.{IsSuperkey, IsKey};
-ghost use Rattle.dep_model.specs.Schemas.{theory_of};
-ghost use Rattle.dep_model.specs.declared.schema.Schema.{Schema};
+ghost use Rattle.dep_model.specs.Theories.{theory_of};
+ghost use Rattle.dep_model.specs.Theories.{Theory};
 ghost use Rattle.fd_closure.specs.LeftSides.{left_sides};
 ghost use Rattle.fd_closure.specs.declared.left_sides.TheConstants.{WIDEST_SEARCHED};
 ghost use Rattle.key_listing.specs.Refusals.{IsTooWide};
@@ -61,7 +61,7 @@ pub fn keys_lie_in_left_sides()
 
 /// Where few attributes stand in left sides, no schema is refused for its width.
 pub fn few_left_sides_are_never_refused()
-    ensures law { (schema : Schema)
-        → count_below (left_sides (theory_of schema)) MOST_ATTRIBUTES ≤ WIDEST_SEARCHED
-        → IsTooWide schema → ⊥ }
+    ensures law { (theory : Theory)
+        → count_below (left_sides (theory_of theory)) MOST_ATTRIBUTES ≤ WIDEST_SEARCHED
+        → IsTooWide theory → ⊥ }
 {}

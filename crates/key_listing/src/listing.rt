@@ -1,5 +1,5 @@
 ghost use Rattle.std.specs.Prelude.{◌≤◌, ◌↔◌, length, IsTrue, IfOk, IfErr};
-ghost use Rattle.dep_model.specs.Schemas.{width_of, universe_of, theory_of};
+ghost use Rattle.dep_model.specs.Theories.{width_of, universe_of, theory_of};
 ghost use Rattle.key_listing.specs.Listing.{AreAllKeys, AreFoundKeys};
 ghost use Rattle.key_listing.specs.Refusals.{IsTooWide, IsRefusedListing};
 
@@ -7,7 +7,7 @@ use crate::exchanging::exchanged_keys;
 use crate::refusal::{KeyRefusal, MOST_KEYS};
 use crate::searching::searched_keys;
 use attr_sets::AttrSet;
-use dep_model::{Failure, OutOfMemory, Schema};
+use dep_model::{Failure, OutOfMemory, Theory};
 use fd_closure::{is_functional, is_wide_scheme};
 use std::alloc::Global;
 
@@ -18,17 +18,17 @@ use std::alloc::Global;
 ///
 /// By functional dependencies alone the time grows with the number of keys. Where a multivalued one is
 /// given, it is exponential in the attributes of left sides at worst, as for `keys_of_scheme`.
-pub fn keys(alloc: Global, schema: &Schema) -> Result<Vec<AttrSet>, Failure<KeyRefusal>>
+pub fn keys(alloc: Global, theory: &Theory) -> Result<Vec<AttrSet>, Failure<KeyRefusal>>
     ensures keys { IfOk result (λ keys.
-        AreAllKeys (width_of schema.now) (theory_of schema.now) (universe_of schema.now) keys.items) }
+        AreAllKeys (width_of theory.now) (theory_of theory.now) (universe_of theory.now) keys.items) }
     ensures within_limit { IfOk result (λ keys. length keys.items ≤ MOST_KEYS) }
-    ensures not_too_wide { IfOk result (λ _. IsTooWide schema.now → ⊥) }
-    ensures refused { IfErr result (IsRefusedListing schema.now) }
+    ensures not_too_wide { IfOk result (λ _. IsTooWide theory.now → ⊥) }
+    ensures refused { IfErr result (IsRefusedListing theory.now) }
 {
-    if is_too_wide(schema) {
+    if is_too_wide(theory) {
         return Err(Failure::Refused(KeyRefusal::TooWide));
     }
-    let found = found_keys(alloc, schema)?;
+    let found = found_keys(alloc, theory)?;
     let many = found.len() > MOST_KEYS;
     if many {
         Err(Failure::Refused(KeyRefusal::TooManyKeys { found }))
@@ -38,23 +38,23 @@ pub fn keys(alloc: Global, schema: &Schema) -> Result<Vec<AttrSet>, Failure<KeyR
 }
 
 // Whether a multivalued dependency is given, and more attributes than are searched stand in left sides.
-fn is_too_wide(schema: &Schema) -> bool
-    ensures too_wide { IsTrue result ↔ IsTooWide schema.now }
+fn is_too_wide(theory: &Theory) -> bool
+    ensures too_wide { IsTrue result ↔ IsTooWide theory.now }
 {
-    if is_functional(schema.deps()) {
+    if is_functional(theory.deps()) {
         return false;
     }
-    is_wide_scheme(schema.deps(), AttrSet::full(schema.width()))
+    is_wide_scheme(theory.deps(), AttrSet::full(theory.width()))
 }
 
 // The keys of the universe, one more than are listed at most.
-fn found_keys(alloc: Global, schema: &Schema) -> Result<Vec<AttrSet>, OutOfMemory>
+fn found_keys(alloc: Global, theory: &Theory) -> Result<Vec<AttrSet>, OutOfMemory>
     ensures keys { IfOk result (λ found.
-        AreFoundKeys (width_of schema.now) (theory_of schema.now) (universe_of schema.now) found.items) }
+        AreFoundKeys (width_of theory.now) (theory_of theory.now) (universe_of theory.now) found.items) }
 {
-    if is_functional(schema.deps()) {
-        exchanged_keys(alloc, schema)
+    if is_functional(theory.deps()) {
+        exchanged_keys(alloc, theory)
     } else {
-        searched_keys(alloc, schema, AttrSet::full(schema.width()))
+        searched_keys(alloc, theory, AttrSet::full(theory.width()))
     }
 }

@@ -1,23 +1,23 @@
 ghost use Rattle.std.specs.Prelude.{◌≡◌, ◌↔◌, ◌<◌, ℕ, true, IsTrue};
 ghost use Rattle.attr_sets.specs.Attributes.{IsSubset};
 ghost use Rattle.attr_sets.specs.Sets.{attributes};
-ghost use Rattle.dep_model.specs.Schemas.{width_of, universe_of, theory_of};
+ghost use Rattle.dep_model.specs.Theories.{width_of, universe_of, theory_of};
 ghost use Rattle.key_listing.specs.Narrowing.{IsInEveryKey, DropsAttributesInNoKey};
 
 use attr_sets::{AttrSet, MOST_ATTRIBUTES};
 use dep_basis::{closure, is_superkey};
-use dep_model::Schema;
+use dep_model::Theory;
 use fd_closure::left_attributes;
 
 // The attributes of a scheme that the scheme's others do not determine. Each is in every key.
-pub fn attributes_in_every_key(schema: &Schema, scheme: AttrSet) -> AttrSet
-    requires scheme { IsSubset (attributes scheme) (universe_of schema.now) }
+pub fn attributes_in_every_key(theory: &Theory, scheme: AttrSet) -> AttrSet
+    requires scheme { IsSubset (attributes scheme) (universe_of theory.now) }
     ensures in_every_key { (a : ℕ) → (attributes result a ≡ true)
-        ↔ IsInEveryKey (width_of schema.now) (theory_of schema.now) (attributes scheme) a }
+        ↔ IsInEveryKey (width_of theory.now) (theory_of theory.now) (attributes scheme) a }
 {
     let mut in_every_key = AttrSet::empty();
     for i in 0..MOST_ATTRIBUTES {
-        if is_in_every_key(schema, scheme, i) {
+        if is_in_every_key(theory, scheme, i) {
             in_every_key = in_every_key.with(i);
         }
     }
@@ -25,23 +25,23 @@ pub fn attributes_in_every_key(schema: &Schema, scheme: AttrSet) -> AttrSet
 }
 
 // Whether an attribute is one of a scheme that the scheme's others do not determine.
-fn is_in_every_key(schema: &Schema, scheme: AttrSet, attribute: u8) -> bool
-    requires scheme { IsSubset (attributes scheme) (universe_of schema.now) }
+fn is_in_every_key(theory: &Theory, scheme: AttrSet, attribute: u8) -> bool
+    requires scheme { IsSubset (attributes scheme) (universe_of theory.now) }
     requires attribute { attribute < MOST_ATTRIBUTES }
     ensures in_every_key { IsTrue result
-        ↔ IsInEveryKey (width_of schema.now) (theory_of schema.now) (attributes scheme) attribute }
+        ↔ IsInEveryKey (width_of theory.now) (theory_of theory.now) (attributes scheme) attribute }
 {
-    scheme.contains(attribute) && !is_superkey(schema, scheme, scheme.without(attribute))
+    scheme.contains(attribute) && !is_superkey(theory, scheme, scheme.without(attribute))
 }
 
 // A scheme without those of its attributes that are in no given left side and that the others determine.
 // Each is in no key.
-pub fn without_attributes_in_no_key(schema: &Schema, scheme: AttrSet) -> AttrSet
-    requires scheme { IsSubset (attributes scheme) (universe_of schema.now) }
-    ensures rest { DropsAttributesInNoKey (width_of schema.now) (theory_of schema.now)
+pub fn without_attributes_in_no_key(theory: &Theory, scheme: AttrSet) -> AttrSet
+    requires scheme { IsSubset (attributes scheme) (universe_of theory.now) }
+    ensures rest { DropsAttributesInNoKey (width_of theory.now) (theory_of theory.now)
         (attributes scheme) (attributes result) }
 {
-    let used = left_attributes(schema.deps());
-    let determined = closure(schema, scheme.intersection(used));
+    let used = left_attributes(theory.deps());
+    let determined = closure(theory, scheme.intersection(used));
     scheme.difference(determined.difference(used))
 }

@@ -1,7 +1,7 @@
 ghost use Rattle.std.specs.Prelude.{◌≤◌, length, IfOk, IfErr};
 ghost use Rattle.attr_sets.specs.Attributes.{IsSubset};
 ghost use Rattle.attr_sets.specs.Sets.{attributes};
-ghost use Rattle.dep_model.specs.Schemas.{width_of, universe_of, theory_of};
+ghost use Rattle.dep_model.specs.Theories.{width_of, universe_of, theory_of};
 ghost use Rattle.fd_closure.specs.LeftSides.{IsWideScheme};
 ghost use Rattle.key_listing.specs.Listing.{AreAllKeys};
 ghost use Rattle.key_listing.specs.Refusals.{IsRefusedFor};
@@ -9,7 +9,7 @@ ghost use Rattle.key_listing.specs.Refusals.{IsRefusedFor};
 use crate::refusal::{MOST_KEYS, SchemeKeyRefusal};
 use crate::searching::searched_keys;
 use attr_sets::AttrSet;
-use dep_model::{Failure, Schema};
+use dep_model::{Failure, Theory};
 use fd_closure::is_wide_scheme;
 use std::alloc::Global;
 
@@ -23,20 +23,20 @@ use std::alloc::Global;
 /// the keys that were found.
 pub fn keys_of_scheme(
     alloc: Global,
-    schema: &Schema,
+    theory: &Theory,
     scheme: AttrSet,
 ) -> Result<Vec<AttrSet>, Failure<SchemeKeyRefusal>>
-    requires scheme { IsSubset (attributes scheme) (universe_of schema.now) }
+    requires scheme { IsSubset (attributes scheme) (universe_of theory.now) }
     ensures keys { IfOk result (λ keys.
-        AreAllKeys (width_of schema.now) (theory_of schema.now) (attributes scheme) keys.items) }
+        AreAllKeys (width_of theory.now) (theory_of theory.now) (attributes scheme) keys.items) }
     ensures within_limit { IfOk result (λ keys. length keys.items ≤ MOST_KEYS) }
-    ensures not_too_wide { IfOk result (λ _. IsWideScheme (theory_of schema.now) (attributes scheme) → ⊥) }
-    ensures refused { IfErr result (IsRefusedFor schema.now (attributes scheme)) }
+    ensures not_too_wide { IfOk result (λ _. IsWideScheme (theory_of theory.now) (attributes scheme) → ⊥) }
+    ensures refused { IfErr result (IsRefusedFor theory.now (attributes scheme)) }
 {
-    if is_wide_scheme(schema.deps(), scheme) {
+    if is_wide_scheme(theory.deps(), scheme) {
         return Err(Failure::Refused(SchemeKeyRefusal::TooWide));
     }
-    let found = searched_keys(alloc, schema, scheme)?;
+    let found = searched_keys(alloc, theory, scheme)?;
     let many = found.len() > MOST_KEYS;
     if many {
         Err(Failure::Refused(SchemeKeyRefusal::TooManyKeys { found }))

@@ -7,7 +7,7 @@ use Rattle.std.proofs.lemmas.Bool.{cases_Bool, cases_lt, eqb-true, eq-eqb}
 use Rattle.attr_sets.specs.Attributes.{Attributes, IsSubset, below, union, difference, only, count_below}
 use Rattle.attr_sets.proofs.AttributesLemmas.{tell_member, count_below-difference_only, count_below-member, count_below-outside, union_within, same_at}
 use Rattle.dep_model.specs.Tuples.{Tuple, Relation, AgreeOn, value_at}
-use Rattle.dep_model.specs.Dependencies.{mvd, Obeys}
+use Rattle.dep_model.specs.Dependencies.{mvd, Obeys, rest_beside}
 use Rattle.row_groups.specs.Numberings.{number_at, AreGroups, AreFirsts}
 use Rattle.row_store.specs.Rows.{row_at}
 use Rattle.row_groups.proofs.NumberingLemmas.{zeros_at, row_of}
@@ -20,17 +20,13 @@ use Rattle.legality.proofs.PairLemmas.{member_of}
 use Rattle.dep_model.proofs.TwoRowLemmas.{AgreeOn-union, AgreeOn-left, AgreeOn-right, AgreeOn-trans}
 use Rattle.dep_model.proofs.SchemeLemmas.{count_below-start}
 
--- what is outside x and y
-abbrev pub rest_of : ℕ → Attributes → Attributes → Attributes
-rest_of n x y = difference (below n) (union x y)
-
 -- rows over n attributes, grouped by x, by x and y, by x and the rest, and by all attributes
 pub record Grouping (n : ℕ) (r : Relation) (x y : Attributes) (g fg l fl z fz a fa : List ℕ) : Type 0 where
   pub left : AreGroups r x g
   pub left_firsts : AreFirsts g fg
   pub both : AreGroups r (union x y) l
   pub both_firsts : AreFirsts l fl
-  pub rest : AreGroups r (union x (rest_of n x y)) z
+  pub rest : AreGroups r (union x (rest_beside (below n) x y)) z
   pub rest_firsts : AreFirsts z fz
   pub all : AreGroups r (below n) a
   pub all_firsts : AreFirsts a fa
@@ -44,16 +40,16 @@ number_of : (r : Relation) (x : Attributes) (g : List ℕ) (i j : ℕ) → AreGr
 number_of r x g i j k li lj e = (k.equal i j li lj).1 e
 
 -- what agrees on both parts agrees everywhere
-pub agree_all : (n : ℕ) (x y : Attributes) (t u : Tuple) → AgreeOn (union x y) t u → AgreeOn (union x (rest_of n x y)) t u → AgreeOn (below n) t u
+pub agree_all : (n : ℕ) (x y : Attributes) (t u : Tuple) → AgreeOn (union x y) t u → AgreeOn (union x (rest_beside (below n) x y)) t u → AgreeOn (below n) t u
 agree_all n x y t u a b m low = elim (cases_Bool (union x y m)) [
   | inl has ↦ a m has
-  | inr lacks ↦ AgreeOn-right x (rest_of n x y) t u b m (ap (λ (c : Bool). c && not (union x y m)) low ∙ ap not lacks)
+  | inr lacks ↦ AgreeOn-right x (rest_beside (below n) x y) t u b m (ap (λ (c : Bool). c && not (union x y m)) low ∙ ap not lacks)
 ]
 
 agree_part : (n : ℕ) (x : Attributes) (t u : Tuple) → IsSubset x (below n) → AgreeOn (below n) t u → AgreeOn x t u
 agree_part n x t u within a m has = a m (within m has)
 
-pub rest_within : (n : ℕ) (x y : Attributes) → IsSubset (rest_of n x y) (below n)
+pub rest_within : (n : ℕ) (x y : Attributes) → IsSubset (rest_beside (below n) x y) (below n)
 rest_within n x y m has = by (nat_lt m n) has
   where
     by : (c : Bool) → (c && not (union x y m)) ≡ true → c ≡ true
@@ -86,7 +82,7 @@ module _ (n : ℕ) (r : Relation) (x y : Attributes) (g fg l fl z fz a fa : List
         let low : z0 < length fz = k.rest_firsts.each j (omega (arith, lj, k.rest.one_each)) in
         let f0 : number_at fz z0 < length r = first_in z fz k.rest_firsts k.rest.one_each z0 low in
         let owner : number_at g (number_at fz z0) ≡ number_at g i =
-        number_of r x g _ _ k.left f0 lj (AgreeOn-left x (rest_of n x y) _ _ (agree_of r _ z _ _ k.rest f0 lj (k.rest_firsts.number z0 low))) ∙ same in
+        number_of r x g _ _ k.left f0 lj (AgreeOn-left x (rest_beside (below n) x y) _ _ (agree_of r _ z _ _ k.rest f0 lj (k.rest_firsts.number z0 low))) ∙ same in
         let fewer = count_below-injection (length fa) (length fz) (λ h. number_at l (number_at fa h) == number_at l i) (difference (λ h. number_at g (number_at fz h) == number_at g i) (only z0)) (λ h p. number_at z (number_at fa h) ≡ p)
         (λ h hl is.
         let v : ℕ = number_at fa h in
@@ -96,7 +92,7 @@ module _ (n : ℕ) (r : Relation) (x y : Attributes) (g fg l fl z fz a fa : List
         let pl : p < length fz = k.rest_firsts.each v (omega (arith, lv, k.rest.one_each)) in
         let fp : number_at fz p < length r = first_in z fz k.rest_firsts k.rest.one_each p pl in
         let mine : number_at g (number_at fz p) ≡ number_at g i =
-        number_of r x g _ _ k.left fp lv (AgreeOn-left x (rest_of n x y) _ _ (agree_of r _ z _ _ k.rest fp lv (k.rest_firsts.number p pl)))
+        number_of r x g _ _ k.left fp lv (AgreeOn-left x (rest_beside (below n) x y) _ _ (agree_of r _ z _ _ k.rest fp lv (k.rest_firsts.number p pl)))
         ∙ number_of r x g _ _ k.left lv li (AgreeOn-left x y _ _ (agree_of r _ l _ _ k.both lv li at)) in
         let apart : (p == z0) ≡ false = other_number p z0 (λ e. true≢false (sym (ap (λ (b : Bool). b && (number_at z v == z0)) is ∙ eq-eqb p z0 e) ∙ none v lv)) in
         (p, pl, ap (λ (b : Bool). b && not (p == z0)) (eq-eqb _ _ mine) ∙ ap not apart, refl))
@@ -127,7 +123,7 @@ module _ (n : ℕ) (r : Relation) (x y : Attributes) (g fg l fl z fz a fa : List
         h,
         hl,
         eq-eqb _ _ (number_of r _ l _ _ k.both lh lv (agree_part n (union x y) _ _ (union_within n x y k.x_within k.y_within) same) ∙ left),
-        number_of r _ z _ _ k.rest lh lv (agree_part n (union x (rest_of n x y)) _ _ (union_within n x (rest_of n x y) k.x_within (rest_within n x y)) same) ∙ rest ∙ k.rest_firsts.number p pl,
+        number_of r _ z _ _ k.rest lh lv (agree_part n (union x (rest_beside (below n) x y)) _ _ (union_within n x (rest_beside (below n) x y) k.x_within (rest_within n x y)) same) ∙ rest ∙ k.rest_firsts.number p pl,
       ))
       (λ p q h pl ql ip iq ep eq. sym ep ∙ eq) in
       absurd (omega (arith, all, less))
@@ -135,7 +131,7 @@ module _ (n : ℕ) (r : Relation) (x y : Attributes) (g fg l fl z fz a fa : List
   -- a row beside two others keeps them from breaking the dependency
   not_broken : (i j : ℕ) → BreaksAt n r (mvd x y) i j → Beside i j → ⊥
   not_broken i j (li, lj, (agrees, none)) (v, lv, left, rest) =
-      none (row_at r v) (member_of r v lv) (agree_of r _ l _ _ k.both lv li left) (AgreeOn-right x (rest_of n x y) _ _ (agree_of r _ z _ _ k.rest lv lj rest))
+      none (row_at r v) (member_of r v lv) (agree_of r _ l _ _ k.both lv li left) (AgreeOn-right x (rest_beside (below n) x y) _ _ (agree_of r _ z _ _ k.rest lv lj rest))
 
   broken : (i j : ℕ) → i < length r → j < length r → number_at g j ≡ number_at g i → (Beside i j → ⊥) → BreaksAt n r (mvd x y) i j
   broken i j li lj same nope =
@@ -147,12 +143,12 @@ module _ (n : ℕ) (r : Relation) (x y : Attributes) (g fg l fl z fz a fa : List
           λ v member av au.
               let (m, lm, at) = row_of r v member in
               let am : AgreeOn (union x y) (row_at r m) (row_at r i) = λ p h. ap (λ (t : Tuple). value_at t p) at ∙ av p h in
-              let bm : AgreeOn (rest_of n x y) (row_at r m) (row_at r j) = λ p h. ap (λ (t : Tuple). value_at t p) at ∙ au p h in
+              let bm : AgreeOn (rest_beside (below n) x y) (row_at r m) (row_at r j) = λ p h. ap (λ (t : Tuple). value_at t p) at ∙ au p h in
               nope (
                 m,
                 lm,
                 number_of r _ l _ _ k.both lm li am,
-                number_of r _ z _ _ k.rest lm lj (AgreeOn-union x (rest_of n x y) _ _ (AgreeOn-trans x _ _ _ (AgreeOn-left x y _ _ am) agrees) bm),
+                number_of r _ z _ _ k.rest lm lj (AgreeOn-union x (rest_beside (below n) x y) _ _ (AgreeOn-trans x _ _ _ (AgreeOn-left x y _ _ am) agrees) bm),
               ),
         ),
       )
@@ -172,7 +168,7 @@ module _ (n : ℕ) (r : Relation) (x y : Attributes) (g fg l fl z fz a fa : List
         row_at r v,
         member_of r v lv,
         (λ m h. agree_of r _ l _ _ k.both lv li left m h ∙ ap (λ (w : Tuple). value_at w m) ti),
-        (λ m h. AgreeOn-right x (rest_of n x y) _ _ (agree_of r _ z _ _ k.rest lv lj rest) m h ∙ ap (λ (w : Tuple). value_at w m) uj),
+        (λ m h. AgreeOn-right x (rest_beside (below n) x y) _ _ (agree_of r _ z _ _ k.rest lv lj rest) m h ∙ ap (λ (w : Tuple). value_at w m) uj),
       )
 
   -- the first row that is short of parts, and the first whose rest is missing beside it
@@ -213,9 +209,9 @@ module _ (n : ℕ) (r : Relation) (x y : Attributes) (g fg l fl z fz a fa : List
 -- ---- what the code finds out
 
 -- the sets by which the rows are grouped
-rest_set : (n : ℕ) (x y u s m t : Attributes) → u ≡ below n → s ≡ union x y → m ≡ difference u s → t ≡ union x m → t ≡ union x (rest_of n x y)
+rest_set : (n : ℕ) (x y u s m t : Attributes) → u ≡ below n → s ≡ union x y → m ≡ difference u s → t ≡ union x m → t ≡ union x (rest_beside (below n) x y)
 rest_set n x y u s m t hu hs hm ht = fun_ext (λ k.
-    let rest : m k ≡ rest_of n x y k = same_at hm k ∙ ap (λ (b : Bool). b && not (s k)) (same_at hu k) ∙ ap (λ (b : Bool). nat_lt k n && not b) (same_at hs k) in
+    let rest : m k ≡ rest_beside (below n) x y k = same_at hm k ∙ ap (λ (b : Bool). b && not (s k)) (same_at hu k) ∙ ap (λ (b : Bool). nat_lt k n && not b) (same_at hs k) in
     same_at ht k ∙ ap (λ (b : Bool). x k || b) rest)
 
 pub grouping : (n : ℕ) (r : Relation) (x y u s m t : Attributes) (g fg l fl z fz a fa : List ℕ) → u ≡ below n → s ≡ union x y → m ≡ difference u s → t ≡ union x m

@@ -2,7 +2,7 @@ ghost use Rattle.std.specs.Prelude.{◌≡◌, ◌+◌, ◌<◌, ◌≤◌, ◌^
 ghost use Rattle.attr_sets.specs.Attributes.{below};
 ghost use Rattle.row_groups.specs.Interning.{IsInterned};
 ghost use Rattle.dep_model.specs.Deps.{IsDepWithin, dependency_of};
-ghost use Rattle.dep_model.specs.Schemas.{LegalFor, theory_of, width_of};
+ghost use Rattle.dep_model.specs.Theories.{LegalFor, theory_of, width_of};
 ghost use Rattle.dep_model.specs.Tuples.{IsOver};
 ghost use Rattle.legality.specs.Offences.{OffencesOf};
 ghost use Rattle.legality.specs.Answers.{IsLeastOffence};
@@ -12,7 +12,7 @@ use crate::multivalued::least_multivalued_pair;
 use crate::offence::Offence;
 use crate::pair::Pair;
 use attr_sets::MOST_ATTRIBUTES;
-use dep_model::{Dep, OutOfMemory, Schema};
+use dep_model::{Dep, OutOfMemory, Theory};
 use row_groups::Interned;
 use row_store::{Hashing, Rows};
 use std::alloc::Global;
@@ -25,19 +25,19 @@ use std::alloc::Global;
 pub fn offences(
     alloc: Global,
     hashing: Hashing,
-    schema: &Schema,
+    theory: &Theory,
     rows: &Rows,
 ) -> Result<Vec<Offence>, OutOfMemory>
-    requires over { IsOver (width_of schema.now) rows.now }
+    requires over { IsOver (width_of theory.now) rows.now }
     requires fits_u32 { length rows.now < 2 ^ 32 }
     ensures offences { IfOk result
-        (λ v. OffencesOf (width_of schema.now) (theory_of schema.now) rows.now v.items) }
-    ensures legal { IfOk result (λ v. (v.items ≡ []) ↔ LegalFor schema.now rows.now) }
+        (λ v. OffencesOf (width_of theory.now) (theory_of theory.now) rows.now v.items) }
+    ensures legal { IfOk result (λ v. (v.items ≡ []) ↔ LegalFor theory.now rows.now) }
 {
-    let codes = Interned::intern(alloc, hashing, schema.width(), rows)?;
+    let codes = Interned::intern(alloc, hashing, theory.width(), rows)?;
     let mut offences = Vec::new(alloc);
-    for k in 0..schema.deps().len() {
-        let least = least_pair(alloc, rows, schema.width(), &codes, schema.deps()[k])?;
+    for k in 0..theory.deps().len() {
+        let least = least_pair(alloc, rows, theory.width(), &codes, theory.deps()[k])?;
         match least {
             Some(pair) => offences.push(offence_of(k as u16, pair))?,
             None => {}

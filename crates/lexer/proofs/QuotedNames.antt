@@ -9,7 +9,7 @@ use Rattle.lexer.specs.declared.piece.Piece.TheVariants as piece
 use Rattle.lexer.specs.declared.token.TokenKind.TheVariants as token
 use Rattle.lexer.specs.Pieces.{front_piece, closed_piece, quoted_piece}
 use Rattle.lexer.specs.Quotes.{is_name, further, closing_quote, undoubled, between}
-use Rattle.dep_model.specs.Names.{quotes_doubled, quoted}
+use Rattle.schema_model.specs.Names.{quotes_doubled, quoted}
 use Rattle.lexer.specs.Tokens.{tokens_after, led_by_mark}
 use Rattle.lexer.proofs.Quoting.{is_quote, closing_at_quote, closing_other, undoubled_one}
 use Rattle.lexer.proofs.Steps.{at_token, between_taken}

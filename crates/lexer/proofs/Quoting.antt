@@ -8,8 +8,8 @@ use Rattle.std.proofs.lemmas.Str.{IsUtf8-from_is_utf8, is_utf8-from_IsUtf8}
 use Rattle.std.specs.Prelude.{nat_lt, nat_le}
 use Rattle.std.specs.List.{starts_with, list_any}
 use Rattle.std.specs.Str.{is_utf8}
-use Rattle.dep_model.specs.declared.name.TheConstants.{MOST_NAME_BYTES}
-use Rattle.dep_model.specs.Names.{IsName, is_control}
+use Rattle.schema_model.specs.declared.name.TheConstants.{MOST_NAME_BYTES}
+use Rattle.schema_model.specs.Names.{IsName, is_control}
 use Rattle.lexer.specs.Quotes.{is_name, further, closing_quote, undoubled}
 
 -- the test of a name

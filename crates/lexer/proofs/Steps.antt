@@ -13,7 +13,7 @@ use Rattle.lexer.specs.declared.token.Flaw.{Flaw}
 use Rattle.lexer.specs.declared.mode.Mode.{Mode}
 use Rattle.lexer.specs.declared.token.TokenKind.{TokenKind}
 use Rattle.lexer.specs.declared.token.TokenKind.TheVariants as token
-use Rattle.dep_model.specs.Names.{IsName, is_bare_name, is_name_byte}
+use Rattle.schema_model.specs.Names.{IsName, is_bare_name, is_name_byte}
 use Rattle.lexer.specs.Bytes.{is_gap, is_number, number_of, run_length}
 use Rattle.lexer.specs.Pieces.{front_piece, run_piece, closed_piece, quoted_piece}
 use Rattle.lexer.specs.Quotes.{is_name, closing_quote, undoubled, between, IsQuoted}

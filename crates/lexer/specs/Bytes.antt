@@ -3,7 +3,7 @@
 use Rattle.std.specs.Prelude.{ℕ, ◌+◌, ◌*◌, ◌-◌, ◌==◌, Bool, ◌&&◌, ◌||◌, List, length, nat_lt, fold}
 use Rattle.std.specs.Char.{is_ascii_digit}
 use Rattle.std.specs.List.{list_all, prefix_len}
-use Rattle.dep_model.specs.Names.{is_name_byte}
+use Rattle.schema_model.specs.Names.{is_name_byte}
 
 -- a blank, a tab or a comma
 abbrev pub is_gap : ℕ → Bool

@@ -2,11 +2,11 @@
 -- functions of `laws.rt`. `Desk` does not cite it.
 use Rattle.std.specs.Prelude.{◌≡◌, ◌↔◌, ℕ, ◌+◌, true, false, List, [], ◌∷◌, ◌++◌, length, nat_eq}
 use Rattle.std.specs.List.{starts_with}
-use Rattle.dep_model.specs.Names.{IsName}
+use Rattle.schema_model.specs.Names.{IsName}
 use Rattle.lexer.specs.declared.mode.Mode.{Mode}
 use Rattle.lexer.specs.declared.token.TokenKind.TheVariants as token
 use Rattle.lexer.specs.Quotes.{is_name}
-use Rattle.dep_model.specs.Names.{quoted}
+use Rattle.schema_model.specs.Names.{quoted}
 use Rattle.lexer.specs.Tokens.{tokens_after, led_by_mark}
 
 -- the test of a name

@@ -1,8 +1,8 @@
 -- Which tokens the lines of each kind of text have, by the names of its schema: for the grammars and
 -- their readers.
 use Rattle.std.specs.Prelude.{Bool, true, false}
-use Rattle.dep_model.specs.declared.naming.Naming.{Naming}
-use Rattle.dep_model.specs.declared.naming.Naming.TheVariants.{Bare, Any}
+use Rattle.schema_model.specs.declared.naming.Naming.{Naming}
+use Rattle.schema_model.specs.declared.naming.Naming.TheVariants.{Bare, Any}
 use Rattle.lexer.specs.declared.mode.Mode.{Mode}
 
 -- whether names may stand between quotes

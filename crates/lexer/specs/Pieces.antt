@@ -6,7 +6,7 @@ use Rattle.lexer.specs.declared.piece.Piece.TheVariants as piece
 use Rattle.lexer.specs.declared.token.Flaw.TheVariants as flaw
 use Rattle.lexer.specs.declared.mode.Mode.{Mode}
 use Rattle.lexer.specs.declared.token.TokenKind.TheVariants as token
-use Rattle.dep_model.specs.Names.{is_bare_name, is_name_byte}
+use Rattle.schema_model.specs.Names.{is_bare_name, is_name_byte}
 use Rattle.lexer.specs.Bytes.{is_gap, run_length, is_number, number_of}
 use Rattle.lexer.specs.Quotes.{is_name, closing_quote, undoubled}
 

@@ -2,8 +2,8 @@
 use Rattle.std.specs.Prelude.{◌≡◌, ◌≤◌, ℕ, ◌+◌, ◌-◌, true, ◌==◌, Bool, ◌&&◌, not, nat_lt, nat_le, Option, Some, None, List, [], ◌∷◌, length, take, drop, if◌then◌else◌}
 use Rattle.std.specs.List.{list_any}
 use Rattle.std.specs.Str.{is_utf8}
-use Rattle.dep_model.specs.declared.name.TheConstants.{MOST_NAME_BYTES}
-use Rattle.dep_model.specs.Names.{is_control}
+use Rattle.schema_model.specs.declared.name.TheConstants.{MOST_NAME_BYTES}
+use Rattle.schema_model.specs.Names.{is_control}
 
 -- whether bytes are a name, `IsName` as a test
 abbrev pub is_name : List ℕ → Bool

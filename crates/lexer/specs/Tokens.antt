@@ -1,5 +1,5 @@
 -- The tokens of a line: for `next_token`, and for the grammars of schemas, plans and certificates.
-use Rattle.std.specs.Prelude.{◌≡◌, ℕ, ◌+◌, ◌-◌, ◌<◌, ◌≤◌, zero, suc, true, Option, None, Some, List, [], ◌∷◌, length, take}
+use Rattle.std.specs.Prelude.{◌≡◌, ℕ, ◌+◌, ◌-◌, ◌<◌, ◌≤◌, zero, suc, Bool, true, false, Option, None, Some, List, [], ◌∷◌, length, take}
 use Rattle.lexer.specs.declared.piece.Piece.{Piece}
 use Rattle.lexer.specs.declared.piece.Piece.TheVariants as piece
 use Rattle.lexer.specs.declared.mode.Mode.{Mode}
@@ -11,7 +11,7 @@ use Rattle.lexer.specs.declared.token.TokenKind.{TokenKind}
 use Rattle.lexer.specs.declared.word.Word.{Word}
 use Rattle.lexer.specs.declared.word.Word.TheVariants as word
 use Rattle.lexer.specs.declared.token.TokenKind.TheVariants as token
-use Rattle.dep_model.specs.Names.{IsName, is_bare_name}
+use Rattle.schema_model.specs.Names.{IsName, is_bare_name}
 use Rattle.lexer.specs.declared.word.WordBytes.{WordBytes}
 use Rattle.lexer.specs.declared.word.WordBytes.TheVariants as bytes
 use Rattle.lexer.specs.Pieces.{front_piece}
@@ -24,6 +24,11 @@ pub record Mark : Type 0 where
   pub column : ℕ
   pub length : ℕ
   pub word : List ℕ
+
+-- whether a token is `:`
+abbrev pub is_colon : TokenKind → Bool
+is_colon token.Colon = true
+is_colon _ = false
 
 -- the tokens of a line up to the first bytes that are none, and these bytes if there are any
 pub record Lexed : Type 0 where

@@ -1,10 +1,10 @@
 ghost use Rattle.std.specs.Prelude.{◌≡◌, IsTrue};
 ghost use Rattle.std.specs.Char.{is_ascii_digit};
 ghost use Rattle.std.specs.List.{list_all};
-ghost use Rattle.dep_model.specs.Names.{is_bare_name, is_name_byte};
+ghost use Rattle.schema_model.specs.Names.{is_bare_name, is_name_byte};
 ghost use Rattle.lexer.specs.Bytes.{is_gap, is_number, number_of, run_length};
 
-use dep_model::MOST_BARE_NAME_BYTES;
+use schema_model::MOST_BARE_NAME_BYTES;
 
 /// Whether a byte only separates tokens: a blank, a tab or a comma.
 pub fn is_gap(byte: u8) -> bool

@@ -1,7 +1,7 @@
 ghost use Rattle.std.specs.Prelude.{◌≡◌};
 ghost use Rattle.lexer.specs.Modes.{has_quotes, plain, scaled, labelled, goal, numbered};
 
-use dep_model::Naming;
+use schema_model::Naming;
 
 /// Which tokens a line may have, beside words, arrows and `()`.
 #[derive(Clone, Copy, Debug, PartialEq, Eq)]

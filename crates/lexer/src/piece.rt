@@ -1,6 +1,6 @@
 ghost use Rattle.std.specs.Prelude.{◌≡◌, ◌<◌, ◌≤◌, length, IsTrue};
 ghost use Rattle.std.specs.List.{list_all};
-ghost use Rattle.dep_model.specs.Names.{is_name_byte};
+ghost use Rattle.schema_model.specs.Names.{is_name_byte};
 ghost use Rattle.lexer.specs.Pieces.{front_piece, run_piece};
 
 use crate::bytes::{is_bare_name, is_gap, is_number, is_run, number_of, run_length};

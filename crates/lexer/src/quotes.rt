@@ -4,7 +4,7 @@ ghost use Rattle.lexer.specs.Quotes.{is_name, closing_quote, undoubled, between,
 
 use crate::piece::Piece;
 use crate::token::{Flaw, TokenKind};
-use dep_model::{MOST_NAME_BYTES, Name};
+use schema_model::{MOST_NAME_BYTES, Name};
 
 /// A name as it stands between quotes, where a quote in it is doubled.
 #[derive(Clone, Copy, Debug)]

@@ -4,7 +4,7 @@ ghost use Rattle.lexer.specs.Tokens.{bytes_in, bytes_of, word_of};
 
 use crate::quotes::QuotedName;
 use crate::token::TokenKind;
-use dep_model::Name;
+use schema_model::Name;
 
 /// The bytes that a token stands for, as its text has them.
 #[derive(Clone, Copy, Debug)]

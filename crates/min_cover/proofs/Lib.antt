@@ -1,5 +1,4 @@
 pub mod ListLemmas
 pub mod MemberLemmas
-pub mod ShorteningLemmas
 pub mod ThinningLemmas
 pub mod CoverLemmas

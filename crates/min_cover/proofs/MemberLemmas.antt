@@ -1,14 +1,15 @@
 -- The members of a functional dependency say the same as it, also with their left sides shortened.
-use Rattle.std.proofs.Common.{◌≡◌, ℕ, ◌+◌, ◌<◌, zero, suc, true, false, List, [], ◌∷◌, ◌++◌, sym, ◌∙◌, subst, ap, inl, inr, arith}
-use mathlib.Core.Path.{fun_ext}
-use Rattle.std.proofs.lemmas.Bool.{cases_Bool, cases_eq, ltb-true, true≢false}
+use Rattle.std.proofs.Common.{◌≡◌, ℕ, ◌+◌, ◌<◌, zero, suc, true, List, [], ◌∷◌, ◌++◌, sym, ◌∙◌, subst, inl, inr, arith}
+use Rattle.std.proofs.lemmas.Bool.{cases_Bool, ltb-true, true≢false}
 use Rattle.std.proofs.lemmas.Bool.Decides.{nat_tests}
 use Rattle.std.proofs.lemmas.List.{map_push}
 use Rattle.std.proofs.lemmas.List.Elements.{All-nil, All-push, All-contains, AllZip-push}
-use Rattle.std.specs.Prelude.{All, Contains, nat_lt, if◌then◌else◌}
+use Rattle.std.specs.Prelude.{All, Contains}
 use Rattle.std.specs.List.{AllZip}
 use Rattle.attr_sets.specs.Attributes.{Attributes, below, only, difference, IsSubset, count_below}
+use Rattle.attr_sets.specs.declared.narrowing.Direction.TheVariants.{Ascending}
 use Rattle.attr_sets.proofs.AttributesLemmas.{count_below-before_member}
+use Rattle.attr_sets.proofs.NarrowingLemmas.{narrowed_passes, narrowed_minimal}
 use Rattle.dep_model.specs.Tuples.{Relation}
 use Rattle.dep_model.specs.declared.dep.Dep.{Dep}
 use Rattle.dep_model.specs.Dependencies.{Dependency, fd, Obeys, ObeysFd, is_fd, functional_part}
@@ -18,7 +19,7 @@ use Rattle.dep_model.specs.Projections.{members_below}
 use Rattle.dep_model.proofs.RuleLemmas.{fd_weaker_obeyed}
 use Rattle.dep_model.proofs.ListLemmas.{Contains-map}
 use Rattle.dep_model.proofs.SchemeLemmas.{length-members_below, members_below-at, members_below-none, members_below-one_more, members_below-no_more}
-use Rattle.min_cover.specs.Members.{members_of, kept_beside, IsLeftReduced, IsLeftReducedDependency, AreLeftReduced}
+use Rattle.min_cover.specs.Members.{members_of, IsLeftReduced, IsLeftReducedDependency, AreLeftReduced}
 
 -- ---- the members of a set, ascending
 
@@ -48,49 +49,21 @@ members_obeyed-to n x y r low all t u t_in u_in agree k in_y = elim (cases_Bool 
 ]
 
 -- ---- shortened left sides
--- what stands where the attributes before m have been tried
-abbrev tried_to : Attributes → Attributes → ℕ → Attributes
-tried_to left short m k = if nat_lt k m then short k else left k
-
-tried_next : (left short : Attributes) (m : ℕ) → short m ≡ left m → tried_to left short m ≡ tried_to left short (m + 1)
-tried_next left short m same = fun_ext (λ (k : ℕ). elim (cases_eq k m) [
-  | inl here ↦ let e : short k ≡ left k = ap short here ∙ same ∙ ap left (sym here) in grind (arith, nat_tests, e)
-  | inr other ↦ grind (arith, nat_tests)
-])
-
-tried_out : (left short : Attributes) (m : ℕ) → short m ≡ false → kept_beside left short m ≡ tried_to left short (m + 1)
-tried_out left short m out = fun_ext (λ (k : ℕ). elim (cases_eq k m) [
-  | inl here ↦ let e : short k ≡ false = ap short here ∙ out in grind (arith, nat_tests, e)
-  | inr other ↦ grind (arith, nat_tests)
-])
-
-module _ (n : ℕ) (ds : List Dependency) (x y short : Attributes) (is : IsLeftReduced n ds x y short) (low : IsSubset x (below n)) (implied : Implies n (functional_part ds) (fd x y)) where
-  -- it determines the right side at each step
-  short_tried : (m : ℕ) → Implies n (functional_part ds) (fd (tried_to x short m) y)
-  short_tried zero =
-      subst (λ (v : Attributes). Implies n (functional_part ds) (fd v y)) (fun_ext {f = x} {g = tried_to x short 0} (λ (k : ℕ). grind (arith, nat_tests))) implied
-  short_tried (suc m) =
-      let before = short_tried m in
-      let e : m + 1 ≡ suc m = omega arith in
-      subst (λ (j : ℕ). Implies n (functional_part ds) (fd (tried_to x short j) y)) e (elim (cases_Bool (short m)) [
-        | inl kept ↦ subst (λ (v : Attributes). Implies n (functional_part ds) (fd v y)) (tried_next x short m (kept ∙ sym (is.within m kept))) before
-        | inr out ↦ elim (cases_Bool (x m)) [
-          | inl member ↦ subst (λ (v : Attributes). Implies n (functional_part ds) (fd v y)) (tried_out x short m out) ((is.left_out m member).0 out)
-          | inr outside ↦ subst (λ (v : Attributes). Implies n (functional_part ds) (fd v y)) (tried_next x short m (out ∙ sym outside)) before
-        ]
-      ])
-
-  -- and so does what is left
-  pub short_implied : Implies n (functional_part ds) (fd short y)
-  short_implied =
-      subst (λ (v : Attributes). Implies n (functional_part ds) (fd v y)) (fun_ext {f = tried_to x short n} {g = short} (λ (k : ℕ). grind (arith, nat_tests, low k, is.within k))) (short_tried n)
+-- what is left determines the right side
+pub short_implied : (n : ℕ) (ds : List Dependency) (x y short : Attributes) → IsLeftReduced n ds x y short → IsSubset x (below n) → Implies n (functional_part ds) (fd x y)
+    → Implies n (functional_part ds) (fd short y)
+short_implied n ds x y short is low implied =
+    narrowed_passes Ascending (λ left. Implies n (functional_part ds) (fd left y)) x x short is n low implied
 
 -- no attribute of it can be left out
 pub left_reduced-needed : (n : ℕ) (ds : List Dependency) (x y short : Attributes) (i : ℕ) → IsLeftReduced n ds x y short → short i ≡ true → Implies n (functional_part ds) (fd (difference short (only i)) y) → ⊥
 left_reduced-needed n ds x y short i is member implied =
-    let beside : Implies n (functional_part ds) (fd (kept_beside x short i) y) = λ r legal.
-    fd_weaker_obeyed (difference short (only i)) y (kept_beside x short i) y r (λ (k : ℕ) m. grind (arith, nat_tests, m, is.within k)) (λ (k : ℕ) m. m) (implied r legal) in
-    true≢false (sym member ∙ (is.left_out i (is.within i member)).1 beside)
+    let part = difference short (only i) in
+    let there : part i ≡ true =
+    narrowed_minimal Ascending (λ left. Implies n (functional_part ds) (fd left y)) x x short is
+    (λ (a b : Attributes) inside within fact r legal. fd_weaker_obeyed a y b y r inside (λ k m. m) (fact r legal)) part (λ k m. grind (arith, m)) implied i member
+    (is.within i member) in
+    true≢false (sym there ∙ grind (arith, nat_tests))
 
 -- ---- the list of them
 -- one more

@@ -1,8 +1,10 @@
 -- Dependencies with one attribute on the right and a shortened left side: for the fixed cover of
 -- `Covers`.
-use Rattle.std.specs.Prelude.{◌≡◌, ℕ, ◌↔◌, ◌&&◌, true, false, nat_lt, if◌then◌else◌, List, [], map, All}
+use Rattle.std.specs.Prelude.{◌≡◌, ℕ, true, List, [], map, All}
 use Rattle.std.specs.List.{AllZip}
-use Rattle.attr_sets.specs.Attributes.{Attributes, below, only, difference, IsSubset}
+use Rattle.attr_sets.specs.Attributes.{Attributes, below, only, difference}
+use Rattle.attr_sets.specs.declared.narrowing.Direction.TheVariants.{Ascending}
+use Rattle.attr_sets.specs.Narrowing.{IsNarrowed}
 use Rattle.dep_model.specs.declared.dep.Dep.{Dep}
 use Rattle.dep_model.specs.Dependencies.{Dependency, fd, mvd, is_fd, functional_part, left_of, right_of}
 use Rattle.dep_model.specs.Implication.{Implies}
@@ -15,17 +17,10 @@ abbrev pub members_of : ℕ → Dependency → List Dependency
 members_of n (fd x y) = map (λ a. fd x (only a)) (members_below n (difference y x))
 members_of n (mvd x y) = []
 
--- what stands beside attribute i where the attributes of a left side are tried from the first to the
--- last: those before i that were kept, and those after it, which are still to be tried
-abbrev pub kept_beside : Attributes → Attributes → ℕ → Attributes
-kept_beside left kept i k = if nat_lt k i then kept k else (nat_lt i k && left k)
-
 -- the left side that is left of x where each attribute, from the first to the last, is left out exactly
 -- where what stands beside it determines y by the functional dependencies
-pub record IsLeftReduced (n : ℕ) (ds : List Dependency) (x y short : Attributes) : Type 0 where
-  pub within : IsSubset short x
-  pub left_out : (i : ℕ) → x i ≡ true
-      → (short i ≡ false) ↔ Implies n (functional_part ds) (fd (kept_beside x short i) y)
+abbrev pub IsLeftReduced : ℕ → List Dependency → Attributes → Attributes → Attributes → Type 0
+IsLeftReduced n ds x y short = IsNarrowed Ascending (λ left. Implies n (functional_part ds) (fd left y)) x x short
 
 -- e is d with its left side shortened
 abbrev pub IsLeftReducedDependency : ℕ → List Dependency → Dependency → Dependency → Type 0

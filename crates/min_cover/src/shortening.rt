@@ -4,24 +4,24 @@ ghost use Rattle.attr_sets.specs.Attributes.{below, IsSubset};
 ghost use Rattle.attr_sets.specs.Sets.{attributes};
 ghost use Rattle.dep_model.specs.Dependencies.{Dependency, fd};
 ghost use Rattle.dep_model.specs.Deps.{dependencies_of, IsDepWithin};
-ghost use Rattle.dep_model.specs.Schemas.{width_of, universe_of, theory_of};
+ghost use Rattle.dep_model.specs.Theories.{width_of, universe_of, theory_of};
 ghost use Rattle.min_cover.specs.Members.{members_of, IsLeftReduced, AreLeftReduced};
 
-use attr_sets::{AttrSet, MOST_ATTRIBUTES};
-use dep_model::{Dep, OutOfMemory, Schema};
+use attr_sets::{AttrSet, Direction, narrowed};
+use dep_model::{Dep, OutOfMemory, Theory};
 use fd_closure::follows;
 use std::alloc::Global;
 
 // The members of the functional dependencies, in order, each with its left side shortened.
-pub fn left_reduced_members(alloc: Global, schema: &Schema) -> Result<Vec<Dep>, OutOfMemory>
-    ensures left_reduced { IfOk result (λ members. AreLeftReduced (width_of schema.now)
-        (theory_of schema.now)
-        (flat_map (members_of (width_of schema.now)) (theory_of schema.now)) members.items) }
+pub fn left_reduced_members(alloc: Global, theory: &Theory) -> Result<Vec<Dep>, OutOfMemory>
+    ensures left_reduced { IfOk result (λ members. AreLeftReduced (width_of theory.now)
+        (theory_of theory.now)
+        (flat_map (members_of (width_of theory.now)) (theory_of theory.now)) members.items) }
 {
     let mut members = Vec::new(alloc);
-    for dep in schema.deps() {
+    for dep in theory.deps() {
         if let Dep::Fd { lhs, rhs } = *dep {
-            add_members(schema, lhs, rhs, &mut members)?;
+            add_members(theory, lhs, rhs, &mut members)?;
         }
     }
     Ok(members)
@@ -29,25 +29,25 @@ pub fn left_reduced_members(alloc: Global, schema: &Schema) -> Result<Vec<Dep>, 
 
 // Adds the members of a functional dependency.
 fn add_members(
-    schema: &Schema,
+    theory: &Theory,
     lhs: AttrSet,
     rhs: AttrSet,
     members: &mut Vec<Dep>,
 ) -> Result<(), OutOfMemory>
-    requires lhs { IsSubset (attributes lhs) (universe_of schema.now) }
-    requires rhs { IsSubset (attributes rhs) (universe_of schema.now) }
+    requires lhs { IsSubset (attributes lhs) (universe_of theory.now) }
+    requires rhs { IsSubset (attributes rhs) (universe_of theory.now) }
     ensures left_reduced { (firsts : List Dependency)
-        → AreLeftReduced (width_of schema.now) (theory_of schema.now) firsts members.old.items
-        → IfOk result (λ _. AreLeftReduced (width_of schema.now) (theory_of schema.now)
-        (firsts ++ members_of (width_of schema.now) (fd (attributes lhs)
+        → AreLeftReduced (width_of theory.now) (theory_of theory.now) firsts members.old.items
+        → IfOk result (λ _. AreLeftReduced (width_of theory.now) (theory_of theory.now)
+        (firsts ++ members_of (width_of theory.now) (fd (attributes lhs)
         (attributes rhs))) members.new.items) }
 {
     let beyond = rhs.difference(lhs);
-    for a in 0..schema.width() {
+    for a in 0..theory.width() {
         if beyond.contains(a) {
             let right = AttrSet::single(a);
             members.push(Dep::Fd {
-                lhs: left_reduced(schema.deps(), lhs, right),
+                lhs: left_reduced(theory.deps(), lhs, right),
                 rhs: right,
             })?;
         }
@@ -63,14 +63,10 @@ pub fn left_reduced(deps: &[Dep], lhs: AttrSet, rhs: AttrSet) -> AttrSet
         → IsLeftReduced n (dependencies_of deps.now) (attributes lhs) (attributes rhs)
         (attributes result) }
 {
-    let mut short = lhs;
-    for i in 0..MOST_ATTRIBUTES {
-        if lhs.contains(i) {
-            let rest = short.without(i);
-            if follows(deps, rest, rhs) {
-                short = rest;
-            }
-        }
-    }
-    short
+    narrowed(
+        lhs,
+        lhs,
+        Direction::Ascending,
+        |left| follows(deps, left, rhs),
+    )
 }

@@ -5,8 +5,8 @@ use Rattle.std.proofs.lemmas.Bool.{and_parts, true≢false, cases_Bool, cases_lt
 use Rattle.std.proofs.lemmas.Option.{slice_get_past, slice_get_cases}
 use Rattle.attr_sets.specs.Attributes.{Attributes, intersection, union, none, IsEmpty, IsFirstFrom}
 use Rattle.attr_sets.specs.Sets.{attributes}
-use Rattle.dep_model.specs.Schemas.{width_of, nullable_of}
-use Rattle.dep_model.specs.declared.schema.Schema.{Schema}
+use Rattle.schema_model.specs.Schemas.{width_of, nullable_of}
+use Rattle.schema_model.specs.Schemas.{Schema}
 use Rattle.ddl_text.specs.declared.table.TableDesign.{TableDesign}
 use Rattle.missing_values.specs.Missing.{HasAt, KeyHasAt, AreBefore, IsInKeyAt, IsSharedAt, IsFineAt, IsLeastInKey, IsLeastShared, AreFineBefore, FindsAt, FindsMissing}
 use Rattle.missing_values.specs.Refusals.{IsWithin}

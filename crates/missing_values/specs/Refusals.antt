@@ -1,8 +1,8 @@
 -- What is said of an attribute of which a value may be missing: for `print_refusal`, and for the answers in
 -- which it stands.
 use Rattle.std.specs.Prelude.{◌<◌, ℕ, List, [], ◌∷◌, ◌++◌, codes, slice_get, slice_index_or, option_map, unwrap_or}
-use Rattle.dep_model.specs.Schemas.{names_of, naming_of}
-use Rattle.dep_model.specs.declared.schema.Schema.{Schema}
+use Rattle.schema_model.specs.Schemas.{names_of, naming_of}
+use Rattle.schema_model.specs.Schemas.{Schema}
 use Rattle.ddl_text.specs.declared.table.TableDesign.{TableDesign}
 use Rattle.schema_printer.specs.Spelling.{spelling}
 use Rattle.missing_values.specs.declared.refusal.MissingRefusal.{MissingRefusal}

@@ -1,14 +1,14 @@
 ghost use Rattle.std.specs.Prelude.{◌<◌, ◌≤◌, ℕ, length, IfSome};
 ghost use Rattle.attr_sets.specs.Sets.{attributes};
 ghost use Rattle.attr_sets.specs.declared.set.TheConstants.{MOST_ATTRIBUTES};
-ghost use Rattle.dep_model.specs.Schemas.{width_of, nullable_of};
+ghost use Rattle.schema_model.specs.Schemas.{width_of, nullable_of};
 ghost use Rattle.missing_values.specs.Missing.{HasAt, AreBefore, IsInKeyAt, FindsAt, FindsMissing};
 ghost use Rattle.missing_values.specs.Refusals.{IsWithin};
 
 use crate::MissingRefusal;
 use attr_sets::AttrSet;
 use ddl_text::TableDesign;
-use dep_model::Schema;
+use schema_model::Schema;
 
 /// The first attribute of which a value may be missing in the key of a table or in two tables: tables in
 /// order, at one table first the least such attribute of its key, and then the least that an earlier table

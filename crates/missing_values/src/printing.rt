@@ -1,11 +1,12 @@
 ghost use Rattle.std.specs.Prelude.{◌≡◌, ◌<◌, ◌++◌, length, IfOk, OnOk};
-ghost use Rattle.dep_model.specs.Schemas.{width_of};
+ghost use Rattle.schema_model.specs.Schemas.{width_of};
 ghost use Rattle.missing_values.specs.Refusals.{IsWithin, refusal_text, in_key_text, in_two_text, missing_text};
 
 use crate::MissingRefusal;
 use byte_texts::add;
 use ddl_text::TableDesign;
-use dep_model::{Name, OutOfMemory, Schema};
+use dep_model::OutOfMemory;
+use schema_model::{Name, Schema};
 use schema_printer::add_name;
 use std::alloc::Global;
 

@@ -2,8 +2,8 @@ ghost use Rattle.std.specs.Prelude.{All};
 ghost use Rattle.named_tables.specs.Choices.{HasRows};
 
 use attr_sets::AttrSet;
-use dep_model::Name;
 use row_store::Rows;
+use schema_model::Name;
 
 /// A table that is held in memory.
 #[derive(Debug, Drop)]

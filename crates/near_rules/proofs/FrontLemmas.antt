@@ -17,7 +17,7 @@ use Rattle.fd_discovery.specs.Searching.{AreUndetermined, IsListedFrom, IsTried}
 use Rattle.fd_discovery.proofs.GivenLemmas.{given_more}
 use Rattle.fd_discovery.proofs.SearchLemmas.{larger_above, larger_filled, larger_in, larger_next, tried_more}
 use Rattle.near_rules.specs.NearRules.{IsMinimalNear, MustBeTried}
-use Rattle.near_rules.specs.Searching.{AreFoundBefore, AreTriedFor, IsFoundBefore}
+use Rattle.near_rules.specs.Searching.{AreNearFoundBefore, AreTriedFor, IsNearFoundBefore}
 use Rattle.near_rules.specs.declared.found.Found.{Found}
 use Rattle.near_rules.specs.declared.found.Sought.{Sought}
 
@@ -53,11 +53,11 @@ module _ (s : Sought) (r : Relation) where
   abbrev IsPassedOver : Found → Attributes → ℕ → Type 0
   IsPassedOver found x a = (Must x a → ⊥) × IsListedFrom (dependencies_of found.deps.items) x a
 
-  module _ (y z : Attributes) (b c : ℕ) (found : Found) (old : AreFoundBefore s r y b found)
+  module _ (y z : Attributes) (b c : ℕ) (found : Found) (old : AreNearFoundBefore s r y b found)
       (into : (x : Attributes) (a : ℕ) → a < s.rights → IsTried y b x a → IsTried z c x a)
       (out : (x : Attributes) (a : ℕ) → IsSubset x (below s.width) → count_below x s.width ≤ s.most → a < s.rights
       → x a ≡ false → IsTried z c x a → IsTried y b x a ⊎ IsPassedOver found x a)
-      (low : (d : Dependency) → IsFoundBefore s r y b d → IsFoundBefore s r z c d) where
+      (low : (d : Dependency) → IsNearFoundBefore s r y b d → IsNearFoundBefore s r z c d) where
     advance_tried : (a : ℕ) → a < s.rights → AreTriedFor s r z c a (number_at found.tried.items a)
     advance_tried a a_in =
         let are = old.tried a a_in in
@@ -73,9 +73,9 @@ module _ (s : Sought) (r : Relation) where
           size = are.size;
         }
 
-    pub advance : AreFoundBefore s r z c found
+    pub advance : AreNearFoundBefore s r z c found
     advance = record {
-      each = All-weaker (IsFoundBefore s r y b) (IsFoundBefore s r z c) low (dependencies_of found.deps.items) old.each;
+      each = All-weaker (IsNearFoundBefore s r y b) (IsNearFoundBefore s r z c) low (dependencies_of found.deps.items) old.each;
       ascending = old.ascending;
       given = λ x a x_in few a_in lacks tried near. elim (out x a x_in few a_in lacks tried) [
         | inl before ↦ old.given x a x_in few a_in lacks before near
@@ -88,7 +88,7 @@ module _ (s : Sought) (r : Relation) where
     }
 
   -- what is listed was found: it is near, and was tried before
-  giver : (y : Attributes) (b : ℕ) (found : Found) → AreFoundBefore s r y b found → (x : Attributes) (a : ℕ)
+  giver : (y : Attributes) (b : ℕ) (found : Found) → AreNearFoundBefore s r y b found → (x : Attributes) (a : ℕ)
       → IsListedFrom (dependencies_of found.deps.items) x a
       → (v : Attributes) × IsSubset v x × IsMinimalNear s.width s.most s.limit r v a × IsTried y b v a
       × Contains (dependencies_of found.deps.items) (fd v (only a))
@@ -105,7 +105,7 @@ module _ (s : Sought) (r : Relation) where
         subst (λ (e : ℕ). Contains (dependencies_of found.deps.items) (fd v (only e))) (sym same) listed,
       )
 
-  pub listed_near : (y : Attributes) (b : ℕ) (found : Found) → AreFoundBefore s r y b found → (x : Attributes) (a : ℕ)
+  pub listed_near : (y : Attributes) (b : ℕ) (found : Found) → AreNearFoundBefore s r y b found → (x : Attributes) (a : ℕ)
       → IsListedFrom (dependencies_of found.deps.items) x a
       → (v : Attributes) × Contains (dependencies_of found.deps.items) (fd v (only a)) × IsSubset v x
       × IsMinimalNear s.width s.most s.limit r v a
@@ -113,7 +113,7 @@ module _ (s : Sought) (r : Relation) where
       let (v, inside, minimal, tried, there) = giver y b found old x a listed in (v, there, inside, minimal)
 
   -- what is given from a set before its right sides are tried need not be tried, nor larger sets
-  given_passes : (y : Attributes) (found : Found) → AreFoundBefore s r y 0 found → (x : Attributes) (a : ℕ) → IsSubset y x
+  given_passes : (y : Attributes) (found : Found) → AreNearFoundBefore s r y 0 found → (x : Attributes) (a : ℕ) → IsSubset y x
       → IsListedFrom (dependencies_of found.deps.items) y a → IsPassedOver found x a
   given_passes y found old x a inside listed =
       let (v, within, minimal, tried, there) = giver y 0 found old y a listed in (
@@ -127,7 +127,7 @@ module _ (s : Sought) (r : Relation) where
 
   -- ---- one right side of a set
   -- what is wanted has to be tried
-  pub wanted_must : (y wanted : Attributes) (found : Found) (a : ℕ) → AreFoundBefore s r y 0 found
+  pub wanted_must : (y wanted : Attributes) (found : Found) (a : ℕ) → AreNearFoundBefore s r y 0 found
       → AreUndetermined s.rights (dependencies_of found.deps.items) y wanted → IsSubset y (below s.width)
       → count_below y s.width ≤ s.most → a < s.rights → wanted a ≡ true → Must y a
   wanted_must y wanted found a old given y_in few a_in has = record {
@@ -154,7 +154,7 @@ module _ (s : Sought) (r : Relation) where
       ]
 
   -- what is not wanted need not be
-  pub unwanted : (y wanted : Attributes) (found : Found) (a : ℕ) → AreFoundBefore s r y 0 found
+  pub unwanted : (y wanted : Attributes) (found : Found) (a : ℕ) → AreNearFoundBefore s r y 0 found
       → AreUndetermined s.rights (dependencies_of found.deps.items) y wanted → a < s.rights → wanted a ≡ false
       → (Must y a → ⊥) × (y a ≡ false → IsListedFrom (dependencies_of found.deps.items) y a)
   unwanted y wanted found a old given a_in lacks = (
@@ -163,8 +163,8 @@ module _ (s : Sought) (r : Relation) where
   )
 
   -- it is passed over
-  pub passed : (y : Attributes) (a : ℕ) (found : Found) → AreFoundBefore s r y a found → (Must y a → ⊥)
-      → (y a ≡ false → IsListedFrom (dependencies_of found.deps.items) y a) → AreFoundBefore s r y (a + 1) found
+  pub passed : (y : Attributes) (a : ℕ) (found : Found) → AreNearFoundBefore s r y a found → (Must y a → ⊥)
+      → (y a ≡ false → IsListedFrom (dependencies_of found.deps.items) y a) → AreNearFoundBefore s r y (a + 1) found
   passed y a found old closed listed = advance y y a (a + 1) found old (λ x b b_in. tried_more y x a b) out
       (λ d h. (h.0, h.1, h.2, h.3, tried_more y h.0 a h.1 h.4))
     where
@@ -201,7 +201,7 @@ module _ (s : Sought) (r : Relation) where
         (λ k m. sym (same_at filled k) ∙ ap (λ (b : Bool). b || nat_lt k i) m)
 
     -- the set with i comes next
-    pub at_larger : AreFoundBefore s r first s.rights found → AreFoundBefore s r larger 0 found
+    pub at_larger : AreNearFoundBefore s r first s.rights found → AreNearFoundBefore s r larger 0 found
     at_larger old = advance first larger s.rights 0 found old into out (λ d h. (h.0, h.1, h.2, h.3, earlier h.0 h.1 h.4))
       where
         next : IsNextSubset (below s.width) first larger
@@ -228,9 +228,9 @@ module _ (s : Sought) (r : Relation) where
         ])
 
     -- where every right side is given from it, the sets up to the last that holds it are passed over
-    pub past_larger : (wanted : Attributes) → AreFoundBefore s r larger 0 found
+    pub past_larger : (wanted : Attributes) → AreNearFoundBefore s r larger 0 found
         → AreUndetermined s.rights (dependencies_of found.deps.items) larger wanted → IsEmpty wanted
-        → AreFoundBefore s r last s.rights found
+        → AreNearFoundBefore s r last s.rights found
     past_larger wanted old given empty = advance larger last 0 s.rights found old (λ x a a_in. moved x a) out
         (λ d h. (h.0, h.1, h.2, h.3, moved h.0 h.1 h.4))
       where
@@ -273,13 +273,13 @@ module _ (s : Sought) (r : Relation) where
           | inr out_of ↦ out_of
         ]
 
-    pub through_larger : AreFoundBefore s r (union larger (below i)) s.rights found → AreFoundBefore s r last s.rights found
-    through_larger = subst (λ (v : Attributes). AreFoundBefore s r v s.rights found) filled
+    pub through_larger : AreNearFoundBefore s r (union larger (below i)) s.rights found → AreNearFoundBefore s r last s.rights found
+    through_larger = subst (λ (v : Attributes). AreNearFoundBefore s r v s.rights found) filled
 
   -- where a set has as many columns as are asked for, larger ones are passed over
   pub past_full : (bound : ℕ) (set : Attributes) (found : Found) → IsSubset set (below s.width) → bound ≤ s.width
-      → ((k : ℕ) → set k ≡ true → bound ≤ k) → s.most ≤ count_below set s.width → AreFoundBefore s r set s.rights found
-      → AreFoundBefore s r (union set (below bound)) s.rights found
+      → ((k : ℕ) → set k ≡ true → bound ≤ k) → s.most ≤ count_below set s.width → AreNearFoundBefore s r set s.rights found
+      → AreNearFoundBefore s r (union set (below bound)) s.rights found
   past_full bound set found set_in bound_in above full old =
       advance set (union set (below bound)) s.rights s.rights found old (λ x a a_in. moved x a) out
       (λ d h. (h.0, h.1, h.2, h.3, moved h.0 h.1 h.4))

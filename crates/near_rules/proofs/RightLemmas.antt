@@ -22,7 +22,7 @@ use Rattle.attr_sets.proofs.UpToLemmas.{only_before}
 use Rattle.removal_laws.specs.Errors.{IsError}
 use Rattle.removal_laws.proofs.ErrorLemmas.{same_error}
 use Rattle.near_rules.specs.NearRules.{AreErrors, ExceedsTried, MustBeTried}
-use Rattle.near_rules.specs.Searching.{AreFoundBefore, AreTriedFor, IsFoundBefore, IsSoughtNear}
+use Rattle.near_rules.specs.Searching.{AreNearFoundBefore, AreTriedFor, IsNearFoundBefore, IsSoughtNear}
 use Rattle.near_rules.specs.declared.found.Found.{Found}
 use Rattle.near_rules.specs.declared.found.Sought.{Sought}
 use Rattle.near_rules.specs.declared.found.TheConstants.{MOST_TRIED}
@@ -103,7 +103,7 @@ module _ (s : Sought) (r : Relation) (y : Attributes) (a : ℕ) where
   }
 
   -- they are too many
-  pub exceeds : (found : Found) → AreFoundBefore s r y a found → a < s.rights → Must y a → MOST_TRIED ≤ number_at found.tried.items a
+  pub exceeds : (found : Found) → AreNearFoundBefore s r y a found → a < s.rights → Must y a → MOST_TRIED ≤ number_at found.tried.items a
       → ExceedsTried s.width s.most s.limit r a
   exceeds found old a_in must many =
       let are = old.tried a a_in in
@@ -116,7 +116,7 @@ module _ (s : Sought) (r : Relation) (y : Attributes) (a : ℕ) where
       }
 
   -- ---- the next state
-  module _ (old new : Found) (found : AreFoundBefore s r y a old) (a_in : a < s.rights) (must : Must y a)
+  module _ (old new : Found) (found : AreNearFoundBefore s r y a old) (a_in : a < s.rights) (must : Must y a)
       (few : number_at old.tried.items a < MOST_TRIED)
       (tried_is : new.tried.items ≡ set old.tried.items a (number_at old.tried.items a + 1)) where
     abbrev ds : List Dependency
@@ -152,10 +152,10 @@ module _ (s : Sought) (r : Relation) (y : Attributes) (a : ℕ) where
 
     -- what is not near is not added
     pub not_near : dependencies_of new.deps.items ≡ ds → new.errors.items ≡ old.errors.items
-        → (IsSoughtNear s r y a → ⊥) → AreFoundBefore s r y (a + 1) new
+        → (IsSoughtNear s r y a → ⊥) → AreNearFoundBefore s r y (a + 1) new
     not_near deps_is errors_is far = record {
-      each = subst (All (IsFoundBefore s r y (a + 1))) (sym deps_is)
-          (All-weaker (IsFoundBefore s r y a) (IsFoundBefore s r y (a + 1)) (λ d h. (h.0, h.1, h.2, h.3, more h.0 h.1 h.4)) ds found.each);
+      each = subst (All (IsNearFoundBefore s r y (a + 1))) (sym deps_is)
+          (All-weaker (IsNearFoundBefore s r y a) (IsNearFoundBefore s r y (a + 1)) (λ d h. (h.0, h.1, h.2, h.3, more h.0 h.1 h.4)) ds found.each);
       ascending = subst (AllPairs Precedes) (sym deps_is) found.ascending;
       given = λ x b x_in x_few b_in lacks tried near. subst (λ (es : List Dependency). IsListedFrom es x b) (sym deps_is)
           (elim tried [
@@ -174,7 +174,7 @@ module _ (s : Sought) (r : Relation) (y : Attributes) (a : ℕ) where
       tried = new_tried;
     }
 
-    precedes_new : (d : Dependency) → IsFoundBefore s r y a d → Precedes d (fd y (only a))
+    precedes_new : (d : Dependency) → IsNearFoundBefore s r y a d → Precedes d (fd y (only a))
     precedes_new d (x, b, is, minimal, tried) =
         subst (λ (e : Dependency). Precedes e (fd y (only a))) (sym is) (elim tried [
           | inl before ↦ inl before
@@ -184,11 +184,11 @@ module _ (s : Sought) (r : Relation) (y : Attributes) (a : ℕ) where
     -- what is near is added
     pub near_added : (e : ℕ) → s.rights ≤ s.width → IsError s.width r (fd y (only a)) e → e ≤ s.limit
         → dependencies_of new.deps.items ≡ ds ++ fd y (only a) ∷ [] → new.errors.items ≡ old.errors.items ++ e ∷ []
-        → AreFoundBefore s r y (a + 1) new
+        → AreNearFoundBefore s r y (a + 1) new
     near_added e rights error small deps_is errors_is = record {
-      each = subst (All (IsFoundBefore s r y (a + 1))) (sym deps_is)
-          (All-push (IsFoundBefore s r y (a + 1)) ds (fd y (only a))
-          (All-weaker (IsFoundBefore s r y a) (IsFoundBefore s r y (a + 1)) (λ d h. (h.0, h.1, h.2, h.3, more h.0 h.1 h.4)) ds found.each)
+      each = subst (All (IsNearFoundBefore s r y (a + 1))) (sym deps_is)
+          (All-push (IsNearFoundBefore s r y (a + 1)) ds (fd y (only a))
+          (All-weaker (IsNearFoundBefore s r y a) (IsNearFoundBefore s r y (a + 1)) (λ d h. (h.0, h.1, h.2, h.3, more h.0 h.1 h.4)) ds found.each)
           (y, a, refl, record { right = omega (arith, a_in, rights); tried = must; near = (e, error, small) }, inr (refl, omega arith)));
       ascending = subst (AllPairs Precedes) (sym deps_is) (all_pairs_push Precedes ds (fd y (only a)) found.ascending
           (λ k d l. precedes_new (get_or ds k d) (found.each k d l)));

@@ -17,7 +17,7 @@ use Rattle.fd_discovery.specs.Minimal.{Precedes}
 use Rattle.fd_discovery.specs.Searching.{AreUndetermined, IsTried}
 use Rattle.attr_sets.proofs.UpToLemmas.{subset_up_to}
 use Rattle.near_rules.specs.NearRules.{AreErrors, AreNearRules, ExceedsTried, IsNearFd, MustBeTried}
-use Rattle.near_rules.specs.Searching.{AreFoundBefore, AreTriedFor, IsFoundBefore}
+use Rattle.near_rules.specs.Searching.{AreNearFoundBefore, AreTriedFor, IsNearFoundBefore}
 use Rattle.near_rules.specs.declared.found.Found.{Found}
 use Rattle.near_rules.specs.declared.found.Sought.{Sought}
 use Rattle.near_rules.proofs.FrontLemmas.{listed_near}
@@ -31,9 +31,9 @@ module _ (s : Sought) (r : Relation) where
   ]
 
   pub start : (set : Attributes) (found : Found) → IsEmpty set → found.deps.items ≡ [] → found.errors.items ≡ []
-      → found.tried.items ≡ replicate s.rights 0 → AreFoundBefore s r set 0 found
+      → found.tried.items ≡ replicate s.rights 0 → AreNearFoundBefore s r set 0 found
   start set found empty no_deps no_errors zeros = record {
-    each = subst (All (IsFoundBefore s r set 0)) (sym no_ds) (λ k d l. absurd (omega (arith, l)));
+    each = subst (All (IsNearFoundBefore s r set 0)) (sym no_ds) (λ k d l. absurd (omega (arith, l)));
     ascending = subst (AllPairs Precedes) (sym no_ds) (λ i j d less l. absurd (omega (arith, l)));
     given = λ x a x_in few a_in out tried near. absurd (nothing_before set empty x a tried);
     errors = subst (λ (ds : List Dependency). AreErrors s.width r ds found.errors.items) (sym no_ds)
@@ -65,12 +65,12 @@ module _ (s : Sought) (r : Relation) where
   }
 
   pub whole_set : (set : Attributes) (found : Found) → IsEmpty set
-      → AreFoundBefore s r (union set (below s.width)) s.rights found → AreFoundBefore s r (below s.width) s.rights found
-  whole_set set found empty = subst (λ (v : Attributes). AreFoundBefore s r v s.rights found)
+      → AreNearFoundBefore s r (union set (below s.width)) s.rights found → AreNearFoundBefore s r (below s.width) s.rights found
+  whole_set set found empty = subst (λ (v : Attributes). AreNearFoundBefore s r v s.rights found)
       (fun_ext (λ k. ap (λ (b : Bool). b || nat_lt k s.width) (empty k)))
 
   -- ---- in the end
-  module _ (found : Found) (old : AreFoundBefore s r (below s.width) s.rights found) where
+  module _ (found : Found) (old : AreNearFoundBefore s r (below s.width) s.rights found) where
     all_tried : (x : Attributes) (a : ℕ) → IsSubset x (below s.width) → a < s.rights → IsTried (below s.width) s.rights x a
     all_tried x a x_in a_in = elim (subset_up_to s.width x (below s.width) (λ k m. m) x_in)
         [ inl same ↦ inr (same, a_in) | inr before ↦ inl before ]
@@ -78,7 +78,7 @@ module _ (s : Sought) (r : Relation) where
     pub all_rules : s.rights ≡ s.width
         → AreNearRules s.width s.most s.limit r (dependencies_of found.deps.items) found.errors.items
     all_rules every = record {
-      each = All-weaker (IsFoundBefore s r (below s.width) s.rights) (IsNearFd s.width s.most s.limit r)
+      each = All-weaker (IsNearFoundBefore s r (below s.width) s.rights) (IsNearFd s.width s.most s.limit r)
           (λ d h. (h.0, h.1, h.2, h.3)) (dependencies_of found.deps.items) old.each;
       all = λ x a m.
           let a_in : a < s.rights = omega (arith, m.right, every) in
@@ -91,10 +91,10 @@ module _ (s : Sought) (r : Relation) where
     }
 
     pub rules_within : All (IsWithin (below s.width)) (dependencies_of found.deps.items)
-    rules_within = All-weaker (IsFoundBefore s r (below s.width) s.rights) (IsWithin (below s.width)) (λ d h. within d h)
+    rules_within = All-weaker (IsNearFoundBefore s r (below s.width) s.rights) (IsWithin (below s.width)) (λ d h. within d h)
         (dependencies_of found.deps.items) old.each
       where
-        within : (d : Dependency) → IsFoundBefore s r (below s.width) s.rights d → IsWithin (below s.width) d
+        within : (d : Dependency) → IsNearFoundBefore s r (below s.width) s.rights d → IsWithin (below s.width) d
         within d (x, a, is, m, tried) = subst (λ (e : Dependency). IsWithin (below s.width) e) (sym is) (
           m.tried.within,
           (λ k has. subst (λ (i : ℕ). below s.width i ≡ true) (sym (eqb-true k a has))

@@ -34,8 +34,8 @@ abbrev pub IsSoughtNear : Sought → Relation → Attributes → ℕ → Type 0
 IsSoughtNear s r x a = IsNear s.width s.limit r x a
 
 -- a listed dependency is a minimal one that was tried before y -> b
-abbrev pub IsFoundBefore : Sought → Relation → Attributes → ℕ → Dependency → Type 0
-IsFoundBefore s r y b d =
+abbrev pub IsNearFoundBefore : Sought → Relation → Attributes → ℕ → Dependency → Type 0
+IsNearFoundBefore s r y b d =
     (x : Attributes) × (a : ℕ) × (d ≡ fd x (only a)) × IsMinimalNear s.width s.most s.limit r x a × IsTried y b x a
 
 -- the sets that had to be tried for a and came before y -> b
@@ -47,8 +47,8 @@ pub record AreTriedFor (s : Sought) (r : Relation) (y : Attributes) (b a count :
   pub size : length sets ≡ count
 
 -- what was tried before y -> b: the minimal dependencies, which give all that is near, and how many sets
-pub record AreFoundBefore (s : Sought) (r : Relation) (y : Attributes) (b : ℕ) (found : Found) : Type 0 where
-  pub each : All (IsFoundBefore s r y b) (dependencies_of found.deps.items)
+pub record AreNearFoundBefore (s : Sought) (r : Relation) (y : Attributes) (b : ℕ) (found : Found) : Type 0 where
+  pub each : All (IsNearFoundBefore s r y b) (dependencies_of found.deps.items)
   pub ascending : AllPairs Precedes (dependencies_of found.deps.items)
   pub given : (x : Attributes) (a : ℕ) → IsSubset x (below s.width) → count_below x s.width ≤ s.most → a < s.rights
       → x a ≡ false → IsTried y b x a → IsSoughtNear s r x a → IsListedFrom (dependencies_of found.deps.items) x a
@@ -58,8 +58,8 @@ pub record AreFoundBefore (s : Sought) (r : Relation) (y : Attributes) (b : ℕ)
   pub tried : (a : ℕ) → a < s.rights → AreTriedFor s r y b a (number_at found.tried.items a)
 
 -- the same, where all right sides of y were tried
-abbrev pub AreFoundUpTo : Sought → Relation → Attributes → Found → Type 0
-AreFoundUpTo s r y found = AreFoundBefore s r y s.rights found
+abbrev pub AreNearFoundUpTo : Sought → Relation → Attributes → Found → Type 0
+AreNearFoundUpTo s r y found = AreNearFoundBefore s r y s.rights found
 
 -- one of the right sides has too many sets to try
 pub record IsTooManyTried (s : Sought) (r : Relation) (refusal : TooManyTried) : Type 0 where

@@ -5,7 +5,7 @@ ghost use Rattle.dep_model.specs.Deps.{IsDepWithin, dependencies_of};
 ghost use Rattle.dep_model.specs.Failures.{RefusesAs};
 ghost use Rattle.dep_model.specs.Tuples.{IsOver, Relation};
 ghost use Rattle.near_rules.specs.NearRules.{AreNearRules, ExceedsTried, IsFirstExceeded, IsTriedWhole};
-ghost use Rattle.near_rules.specs.Searching.{AreFoundUpTo, AreSought, IsTooManyTried};
+ghost use Rattle.near_rules.specs.Searching.{AreNearFoundUpTo, AreSought, IsTooManyTried};
 
 use crate::found::{Found, NearRules, Sought, TooManyTried};
 use crate::front::front_rows;
@@ -90,7 +90,7 @@ fn first_exceeded(alloc: Global, sought: Sought, right: u8) -> Failure<TooManyTr
 fn search(alloc: Global, sought: &Sought) -> Result<Found, Failure<TooManyTried>>
     requires rows { (r : Relation) × AreSought r sought.now }
     ensures found { (r : Relation) → AreSought r sought.now
-        → IfOk result (AreFoundUpTo sought.now r (below sought.now.width)) }
+        → IfOk result (AreNearFoundUpTo sought.now r (below sought.now.width)) }
     ensures refusal { (r : Relation) → AreSought r sought.now
         → IfErr result (RefusesAs (IsTooManyTried sought.now r)) }
 {

@@ -8,7 +8,7 @@ ghost use Rattle.dep_model.specs.Failures.{RefusesAs};
 ghost use Rattle.dep_model.specs.Tuples.{Relation};
 ghost use Rattle.fd_discovery.specs.Searching.{AreUndetermined};
 ghost use Rattle.near_rules.specs.NearRules.{MustBeTried};
-ghost use Rattle.near_rules.specs.Searching.{AreFoundBefore, AreFoundUpTo, AreGrouped, AreSought, IsTooManyTried};
+ghost use Rattle.near_rules.specs.Searching.{AreNearFoundBefore, AreNearFoundUpTo, AreGrouped, AreSought, IsTooManyTried};
 
 use crate::found::{Found, MOST_TRIED, Sought, TooManyTried};
 use crate::front::is_far;
@@ -34,12 +34,12 @@ pub fn search_above(
     requires set { IsSubset (attributes set) (below sought.now.width) }
     requires above { (k : ℕ) → attributes set k ≡ true → bound ≤ k }
     requires rows { (r : Relation) × AreSought r sought.now × AreGrouped r (attributes set) groups.now
-        × AreFoundUpTo sought.now r (attributes set) found.old }
+        × AreNearFoundUpTo sought.now r (attributes set) found.old }
     ensures found { (r : Relation) → AreSought r sought.now → AreGrouped r (attributes set) groups.now
-        → AreFoundUpTo sought.now r (attributes set) found.old
-        → IfOk result (λ _. AreFoundUpTo sought.now r (union (attributes set) (below bound)) found.new) }
+        → AreNearFoundUpTo sought.now r (attributes set) found.old
+        → IfOk result (λ _. AreNearFoundUpTo sought.now r (union (attributes set) (below bound)) found.new) }
     ensures refusal { (r : Relation) → AreSought r sought.now → AreGrouped r (attributes set) groups.now
-        → AreFoundUpTo sought.now r (attributes set) found.old
+        → AreNearFoundUpTo sought.now r (attributes set) found.old
         → IfErr result (RefusesAs (IsTooManyTried sought.now r)) }
 {
     if set.len() >= sought.most {
@@ -69,14 +69,14 @@ pub fn try_set(
     requires set { IsSubset (attributes set) (below sought.now.width) }
     requires few { count_below (attributes set) sought.now.width ≤ sought.now.most }
     requires rows { (r : Relation) × AreSought r sought.now × AreGrouped r (attributes set) groups.now
-        × AreFoundBefore sought.now r (attributes set) 0 found.old }
+        × AreNearFoundBefore sought.now r (attributes set) 0 found.old }
     requires wanted { AreUndetermined sought.now.rights (dependencies_of found.old.deps.items) (attributes set)
         (attributes wanted) }
     ensures found { (r : Relation) → AreSought r sought.now → AreGrouped r (attributes set) groups.now
-        → AreFoundBefore sought.now r (attributes set) 0 found.old
-        → IfOk result (λ _. AreFoundUpTo sought.now r (attributes set) found.new) }
+        → AreNearFoundBefore sought.now r (attributes set) 0 found.old
+        → IfOk result (λ _. AreNearFoundUpTo sought.now r (attributes set) found.new) }
     ensures refusal { (r : Relation) → AreSought r sought.now → AreGrouped r (attributes set) groups.now
-        → AreFoundBefore sought.now r (attributes set) 0 found.old
+        → AreNearFoundBefore sought.now r (attributes set) 0 found.old
         → IfErr result (RefusesAs (IsTooManyTried sought.now r)) }
 {
     for attribute in 0..sought.rights {
@@ -99,14 +99,14 @@ fn try_right(
     requires attribute { attribute < sought.now.rights }
     requires set { IsSubset (attributes set) (below sought.now.width) }
     requires rows { (r : Relation) × AreSought r sought.now × AreGrouped r (attributes set) groups.now
-        × AreFoundBefore sought.now r (attributes set) attribute found.old }
+        × AreNearFoundBefore sought.now r (attributes set) attribute found.old }
     ensures found { (r : Relation) → AreSought r sought.now → AreGrouped r (attributes set) groups.now
-        → AreFoundBefore sought.now r (attributes set) attribute found.old
+        → AreNearFoundBefore sought.now r (attributes set) attribute found.old
         → MustBeTried sought.now.width sought.now.most sought.now.limit r (attributes set) attribute
-        → IfOk result (λ _. AreFoundBefore sought.now r (attributes set) (attribute + 1) found.new) }
+        → IfOk result (λ _. AreNearFoundBefore sought.now r (attributes set) (attribute + 1) found.new) }
     ensures kept { IfOk result (λ _. (more : List Dep) × (found.new.deps.items ≡ found.old.deps.items ++ more)) }
     ensures refusal { (r : Relation) → AreSought r sought.now → AreGrouped r (attributes set) groups.now
-        → AreFoundBefore sought.now r (attributes set) attribute found.old
+        → AreNearFoundBefore sought.now r (attributes set) attribute found.old
         → MustBeTried sought.now.width sought.now.most sought.now.limit r (attributes set) attribute
         → IfErr result (RefusesAs (IsTooManyTried sought.now r)) }
 {

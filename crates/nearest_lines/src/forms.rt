@@ -3,7 +3,7 @@
 ghost use Rattle.std.specs.Prelude.{◌≡◌, ◌∷◌, ◌+◌, ◌<◌, ◌≤◌, cond, length, IfSome};
 ghost use Rattle.std.specs.List.{list_any, position_or_len, slice_split};
 ghost use Rattle.std.specs.Char.{is_ascii_lowercase, is_ascii_uppercase};
-ghost use Rattle.dep_model.specs.Names.{same_name};
+ghost use Rattle.schema_model.specs.Names.{same_name};
 ghost use Rattle.nearest_lines.specs.Nearest.{hits, hits_in, is_blank, is_fixed, is_hit};
 ghost use Rattle.nearest_lines.specs.Words.{words_after};
 

@@ -6,8 +6,8 @@ use Rattle.attr_sets.specs.Sets.{attributes}
 use Rattle.dep_model.specs.Dependencies.{Dependency, fd}
 use Rattle.dep_model.specs.Implication.{Implies}
 use Rattle.dep_model.specs.Keys.{InClosure}
-use Rattle.dep_model.specs.Schemas.{width_of, universe_of}
-use Rattle.dep_model.specs.declared.schema.Schema.{Schema}
+use Rattle.dep_model.specs.Theories.{width_of, universe_of}
+use Rattle.dep_model.specs.Theories.{Theory}
 use Rattle.dep_model.proofs.RuleLemmas.{reflexivity_obeyed, transitivity_obeyed, fd_weaker_obeyed, fd_union_obeyed}
 use Rattle.fd_closure.proofs.ClosureLemmas.{fd_each-from}
 use Rattle.normal_forms.specs.declared.beginning.KnownPart.{KnownPart}
@@ -29,14 +29,14 @@ implied_begun n ds x b y inside implied = (
 )
 
 -- a set is known to determine its closure
-pub known_closure : (functional : Bool) (s : Schema) (part : KnownPart)
+pub known_closure : (functional : Bool) (s : Theory) (part : KnownPart)
     → ((a : ℕ) → (attributes part.closed a ≡ true) ↔ InClosure (width_of s) (theory_by functional s) (attributes part.set) a) → IsKnownPart functional s part
 known_closure functional s part closure = record {
   within = λ a m. lt-ltb a (width_of s) ((closure a).0 m).0;
   determined = fd_each-from (width_of s) (theory_by functional s) (attributes part.set) (attributes part.closed) (λ a m. ((closure a).0 m).1);
 }
 
-pub begun_with : (functional : Bool) (s : Schema) (part : KnownPart) (x : Attributes) → IsKnownPart functional s part → IsSubset x (universe_of s) → IsSubset (attributes part.set) x
+pub begun_with : (functional : Bool) (s : Theory) (part : KnownPart) (x : Attributes) → IsKnownPart functional s part → IsSubset x (universe_of s) → IsSubset (attributes part.set) x
     → IsBegun functional s x (union x (attributes part.closed))
 begun_with functional s part x known low inside = record {
   within = λ k m. elim (or_cases (x k) (attributes part.closed k) m) [
@@ -48,5 +48,5 @@ begun_with functional s part x known low inside = record {
       (fd_weaker_obeyed (attributes part.set) (attributes part.closed) x (attributes part.closed) r inside (λ k m. m) (known.determined r legal));
 }
 
-pub begun_bare : (functional : Bool) (s : Schema) (x : Attributes) → IsSubset x (universe_of s) → IsBegun functional s x x
+pub begun_bare : (functional : Bool) (s : Theory) (x : Attributes) → IsSubset x (universe_of s) → IsBegun functional s x x
 begun_bare functional s x low = record { within = low; holds = λ k m. m; determined = λ r legal. reflexivity_obeyed x x r (λ k m. m) }

@@ -3,12 +3,12 @@
 use Rattle.std.specs.Prelude.{◌≡◌, ℕ, Bool, true, false, List}
 use Rattle.attr_sets.specs.Attributes.{Attributes, only, difference, IsSubset, IsBefore}
 use Rattle.dep_model.specs.Dependencies.{Dependency, functional_part}
-use Rattle.dep_model.specs.Schemas.{theory_of}
-use Rattle.dep_model.specs.declared.schema.Schema.{Schema}
+use Rattle.dep_model.specs.Theories.{theory_of}
+use Rattle.dep_model.specs.Theories.{Theory}
 use Rattle.dep_basis.specs.Parts.{HasTwoParts}
 
 -- the dependencies that a search goes by: the functional ones alone, or all
-abbrev pub theory_by : Bool → Schema → List Dependency
+abbrev pub theory_by : Bool → Theory → List Dependency
 theory_by true s = functional_part (theory_of s)
 theory_by false s = theory_of s
 

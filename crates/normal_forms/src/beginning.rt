@@ -4,14 +4,14 @@ ghost use Rattle.std.specs.Prelude.{◌≡◌, ℕ, ◌↔◌, Bool, true};
 ghost use Rattle.attr_sets.specs.Attributes.{IsSubset};
 ghost use Rattle.attr_sets.specs.Sets.{attributes};
 ghost use Rattle.dep_model.specs.Keys.{InClosure};
-ghost use Rattle.dep_model.specs.Schemas.{width_of, universe_of};
-ghost use Rattle.dep_model.specs.declared.schema.Schema.{Schema as Declared};
+ghost use Rattle.dep_model.specs.Theories.{width_of, universe_of};
+ghost use Rattle.dep_model.specs.Theories.{Theory as Declared};
 ghost use Rattle.normal_forms.specs.Beginning.{IsKnownPart, IsBegun};
 ghost use Rattle.normal_forms.specs.Passing.{theory_by};
 
 use crate::passing::closed_set;
 use attr_sets::AttrSet;
-use dep_model::Schema;
+use dep_model::Theory;
 
 // A set, and what is known to be determined by it. The closure of a set that holds it begins with that.
 #[derive(Clone, Copy, Debug)]
@@ -34,21 +34,21 @@ pub fn no_part() -> KnownPart
 // The part with which the closure of a set begins: all but a few attributes, which a search changes
 // while the others stay, so that the part is most often the one before.
 pub fn next_part(
-    schema: &Schema,
+    theory: &Theory,
     functional: bool,
     part: KnownPart,
     few: AttrSet,
     set: AttrSet,
 ) -> KnownPart
-    requires part { IsKnownPart functional schema.now part }
-    requires set { IsSubset (attributes set) (universe_of schema.now) }
-    ensures known { IsKnownPart functional schema.now result }
+    requires part { IsKnownPart functional theory.now part }
+    requires set { IsSubset (attributes set) (universe_of theory.now) }
+    ensures known { IsKnownPart functional theory.now result }
 {
     let fixed = set.difference(few);
     if fixed == part.set {
         return part;
     }
-    let closed = closed_set(schema, functional, fixed);
+    let closed = closed_set(theory, functional, fixed);
     KnownPart { set: fixed, closed }
 }
 
@@ -81,11 +81,11 @@ pub fn begun(part: KnownPart, set: AttrSet) -> AttrSet
 }
 
 // The closure of a set, begun with that of a part.
-pub fn closure_begun(schema: &Schema, functional: bool, part: KnownPart, set: AttrSet) -> AttrSet
-    requires part { IsKnownPart functional schema.now part }
-    requires set { IsSubset (attributes set) (universe_of schema.now) }
+pub fn closure_begun(theory: &Theory, functional: bool, part: KnownPart, set: AttrSet) -> AttrSet
+    requires part { IsKnownPart functional theory.now part }
+    requires set { IsSubset (attributes set) (universe_of theory.now) }
     ensures closure { (a : ℕ) → (attributes result a ≡ true)
-        ↔ InClosure (width_of schema.now) (theory_by functional schema.now) (attributes set) a }
+        ↔ InClosure (width_of theory.now) (theory_by functional theory.now) (attributes set) a }
 {
-    closed_set(schema, functional, begun(part, set))
+    closed_set(theory, functional, begun(part, set))
 }

@@ -3,7 +3,7 @@ ghost use Rattle.attr_sets.specs.Attributes.{Attributes, below, difference, IsSu
 ghost use Rattle.attr_sets.specs.Sets.{attributes};
 ghost use Rattle.dep_model.specs.Dependencies.{Dependency, functional_part};
 ghost use Rattle.dep_model.specs.Keys.{InClosure, IsPartOn};
-ghost use Rattle.dep_model.specs.Schemas.{width_of, universe_of, theory_of};
+ghost use Rattle.dep_model.specs.Theories.{width_of, universe_of, theory_of};
 ghost use Rattle.normal_forms.specs.Beginning.{IsKnownPart};
 ghost use Rattle.normal_forms.specs.Breaking.{Breaks, IsFirstBreaking, NoneBreaks};
 ghost use Rattle.normal_forms.specs.Passing.{LiesBetween, PassesOver};
@@ -14,40 +14,40 @@ use crate::parting::parts_none;
 use crate::passing::{FEWEST_PASSED, determines_none, filled};
 use attr_sets::AttrSet;
 use dep_basis::{block, closure, has_two_parts};
-use dep_model::{Form, Schema};
+use dep_model::{Form, Theory};
 
 // Whether a left side violates Boyce-Codd or fourth form. Where all dependencies are functional
 // both are violated by a left side that determines some of the rest and not all. Else a left side
 // of which a part is known to determine all is named first, and one with one part alone, which most
 // often is all that is asked.
 pub fn breaks(
-    schema: &Schema,
+    theory: &Theory,
     scheme: AttrSet,
     form: Form,
     functional: bool,
     part: KnownPart,
     lhs: AttrSet,
 ) -> bool
-    requires scheme { IsSubset (attributes scheme) (universe_of schema.now) }
-    requires part { IsKnownPart functional schema.now part }
+    requires scheme { IsSubset (attributes scheme) (universe_of theory.now) }
+    requires part { IsKnownPart functional theory.now part }
     requires lhs { IsSubset (attributes lhs) (attributes scheme) }
     requires form { form ≡ Form.Third → ⊥ }
     requires functional { IsTrue functional
-        → functional_part (theory_of schema.now) ≡ theory_of schema.now }
+        → functional_part (theory_of theory.now) ≡ theory_of theory.now }
     ensures breaks { IsTrue result
-        ↔ Breaks (width_of schema.now) (theory_of schema.now) form (attributes scheme)
+        ↔ Breaks (width_of theory.now) (theory_of theory.now) form (attributes scheme)
         (attributes lhs) }
 {
     if functional {
-        return determines_some(scheme, lhs, closure_begun(schema, functional, part, lhs));
+        return determines_some(scheme, lhs, closure_begun(theory, functional, part, lhs));
     }
     if scheme.is_subset(begun(part, lhs)) {
         return false;
     }
-    if !has_two_parts(schema, scheme, lhs) {
+    if !has_two_parts(theory, scheme, lhs) {
         return false;
     }
-    let found = closure_begun(schema, functional, part, lhs);
+    let found = closure_begun(theory, functional, part, lhs);
     match form {
         Form::Fourth => !scheme.is_subset(found),
         Form::Third | Form::Bcnf => determines_some(scheme, lhs, found),
@@ -66,33 +66,33 @@ fn determines_some(scheme: AttrSet, lhs: AttrSet, closed: AttrSet) -> bool
 
 // The first of the subsets of a set that violates Boyce-Codd or fourth form on a scheme.
 pub fn first_breaking(
-    schema: &Schema,
+    theory: &Theory,
     scheme: AttrSet,
     form: Form,
     functional: bool,
     whole: AttrSet,
 ) -> Option<AttrSet>
-    requires scheme { IsSubset (attributes scheme) (universe_of schema.now) }
+    requires scheme { IsSubset (attributes scheme) (universe_of theory.now) }
     requires within_scheme { IsSubset (attributes whole) (attributes scheme) }
     requires form { form ≡ Form.Third → ⊥ }
     requires functional { IsTrue functional
-        → functional_part (theory_of schema.now) ≡ theory_of schema.now }
+        → functional_part (theory_of theory.now) ≡ theory_of theory.now }
     ensures none { IsNone result
-        → NoneBreaks (width_of schema.now) (theory_of schema.now) form (attributes scheme)
+        → NoneBreaks (width_of theory.now) (theory_of theory.now) form (attributes scheme)
         (attributes whole) }
     ensures first { IfSome result (λ lhs.
-        IsFirstBreaking (width_of schema.now) (theory_of schema.now) form (attributes scheme)
+        IsFirstBreaking (width_of theory.now) (theory_of theory.now) form (attributes scheme)
         (attributes whole) (attributes lhs)) }
 {
     let few = first_few(whole);
     let mut part = no_part();
     let mut next = Some(AttrSet::empty());
     while let Some(set) = next {
-        part = next_part(schema, functional, part, few, set);
-        if breaks(schema, scheme, form, functional, part, set) {
+        part = next_part(theory, functional, part, few, set);
+        if breaks(theory, scheme, form, functional, part, set) {
             return Some(set);
         }
-        next = passed(schema, scheme, form, functional, whole, set).next_subset(whole);
+        next = passed(theory, scheme, form, functional, whole, set).next_subset(whole);
     }
     None
 }
@@ -100,23 +100,23 @@ pub fn first_breaking(
 // The last of the subsets of a set that are passed over after one: with it all that comes of it by
 // adding attributes before its first, where it is seen at once that nothing of that violates the form.
 fn passed(
-    schema: &Schema,
+    theory: &Theory,
     scheme: AttrSet,
     form: Form,
     functional: bool,
     whole: AttrSet,
     set: AttrSet,
 ) -> AttrSet
-    requires scheme { IsSubset (attributes scheme) (universe_of schema.now) }
+    requires scheme { IsSubset (attributes scheme) (universe_of theory.now) }
     requires within_scheme { IsSubset (attributes whole) (attributes scheme) }
     requires form { form ≡ Form.Third → ⊥ }
     requires functional { IsTrue functional
-        → functional_part (theory_of schema.now) ≡ theory_of schema.now }
+        → functional_part (theory_of theory.now) ≡ theory_of theory.now }
     requires set { IsSubset (attributes set) (attributes whole) }
     ensures holds { IsSubset (attributes set) (attributes result) }
     ensures within { IsSubset (attributes result) (attributes whole) }
     ensures passed { PassesOver
-        (Breaks (width_of schema.now) (theory_of schema.now) form (attributes scheme))
+        (Breaks (width_of theory.now) (theory_of theory.now) form (attributes scheme))
         (attributes whole) (attributes set) (attributes result) }
 {
     let most = filled(set, whole);
@@ -124,70 +124,70 @@ fn passed(
     if few {
         return set;
     }
-    let passes = breaks_none(schema, scheme, form, functional, set, most);
+    let passes = breaks_none(theory, scheme, form, functional, set, most);
     if passes { most } else { set }
 }
 
 // Whether it is seen at once that no set between two violates Boyce-Codd or fourth form.
 fn breaks_none(
-    schema: &Schema,
+    theory: &Theory,
     scheme: AttrSet,
     form: Form,
     functional: bool,
     least: AttrSet,
     most: AttrSet,
 ) -> bool
-    requires scheme { IsSubset (attributes scheme) (universe_of schema.now) }
+    requires scheme { IsSubset (attributes scheme) (universe_of theory.now) }
     requires most { IsSubset (attributes most) (attributes scheme) }
     requires least { IsSubset (attributes least) (attributes most) }
     requires form { form ≡ Form.Third → ⊥ }
     requires functional { IsTrue functional
-        → functional_part (theory_of schema.now) ≡ theory_of schema.now }
+        → functional_part (theory_of theory.now) ≡ theory_of theory.now }
     ensures none { IsTrue result → (x : Attributes)
         → LiesBetween (attributes least) (attributes most) x
-        → Breaks (width_of schema.now) (theory_of schema.now) form (attributes scheme) x → ⊥ }
+        → Breaks (width_of theory.now) (theory_of theory.now) form (attributes scheme) x → ⊥ }
 {
     if functional {
-        return determines_none(schema, scheme, true, least, most);
+        return determines_none(theory, scheme, true, least, most);
     }
     match form {
-        Form::Fourth => parts_none(schema, scheme, least, most),
-        Form::Third | Form::Bcnf => determines_none(schema, scheme, false, least, most),
+        Form::Fourth => parts_none(theory, scheme, least, most),
+        Form::Third | Form::Bcnf => determines_none(theory, scheme, false, least, most),
     }
 }
 
 // The right side of a left side that violates Boyce-Codd or fourth form: for the one all that it
 // determines beyond itself, for the other the part with the first attribute beyond it.
-pub fn right_side(schema: &Schema, scheme: AttrSet, form: Form, lhs: AttrSet) -> AttrSet
-    requires scheme { IsSubset (attributes scheme) (universe_of schema.now) }
+pub fn right_side(theory: &Theory, scheme: AttrSet, form: Form, lhs: AttrSet) -> AttrSet
+    requires scheme { IsSubset (attributes scheme) (universe_of theory.now) }
     requires lhs { IsSubset (attributes lhs) (attributes scheme) }
     requires form { form ≡ Form.Third → ⊥ }
-    requires breaks { Breaks (width_of schema.now) (theory_of schema.now) form (attributes scheme)
+    requires breaks { Breaks (width_of theory.now) (theory_of theory.now) form (attributes scheme)
         (attributes lhs) }
-    ensures violates { Violates (width_of schema.now) (theory_of schema.now) form (attributes scheme)
+    ensures violates { Violates (width_of theory.now) (theory_of theory.now) form (attributes scheme)
         (attributes lhs) (attributes result) }
 {
     match form {
-        Form::Fourth => first_part(schema, scheme, lhs),
-        Form::Third | Form::Bcnf => closure(schema, lhs).intersection(scheme).difference(lhs),
+        Form::Fourth => first_part(theory, scheme, lhs),
+        Form::Third | Form::Bcnf => closure(theory, lhs).intersection(scheme).difference(lhs),
     }
 }
 
 // The part of a left side with the first attribute beyond it; the empty set where nothing lies
 // beyond it.
-fn first_part(schema: &Schema, scheme: AttrSet, lhs: AttrSet) -> AttrSet
-    requires scheme { IsSubset (attributes scheme) (universe_of schema.now) }
+fn first_part(theory: &Theory, scheme: AttrSet, lhs: AttrSet) -> AttrSet
+    requires scheme { IsSubset (attributes scheme) (universe_of theory.now) }
     requires lhs { IsSubset (attributes lhs) (attributes scheme) }
     ensures first { (a : ℕ) → IsFirstFrom (difference (attributes scheme) (attributes lhs)) 0 a
         → attributes result a ≡ true }
     ensures part { (IsEmpty (difference (attributes scheme) (attributes lhs)) → ⊥)
-        → IsPartOn (width_of schema.now) (theory_of schema.now) (attributes scheme) (attributes lhs)
+        → IsPartOn (width_of theory.now) (theory_of theory.now) (attributes scheme) (attributes lhs)
         (attributes result) }
 {
     let Some(first) = scheme.difference(lhs).first() else {
         return AttrSet::empty();
     };
-    match block(schema, lhs, first) {
+    match block(theory, lhs, first) {
         Some(found) => found.intersection(scheme),
         None => AttrSet::single(first),
     }

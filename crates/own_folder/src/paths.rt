@@ -6,7 +6,8 @@ ghost use Rattle.destinations.specs.declared.format.TableFormat.TheVariants.{Csv
 ghost use Rattle.own_folder.specs.OwnFiles.{path_in};
 
 use byte_texts::add;
-use dep_model::{Name, OutOfMemory};
+use dep_model::OutOfMemory;
+use schema_model::Name;
 use std::alloc::Global;
 
 /// The path of the CSV file of a table.

@@ -9,10 +9,10 @@ use Rattle.std.proofs.lemmas.List.Elements.{All-head, All-tail}
 use Rattle.std.proofs.lemmas.List.Folds.{list_any-from_Any}
 use Rattle.attr_sets.specs.Attributes.{Attributes, below, IsFirstFrom}
 use Rattle.dep_model.specs.Projections.{Covers}
-use Rattle.dep_model.specs.declared.naming.Naming.{Naming}
+use Rattle.schema_model.specs.declared.naming.Naming.{Naming}
 use Rattle.schema_grammar.specs.Words.{is_word_token}
 use Rattle.lexer.specs.Lines.{line_texts, without_mark}
-use Rattle.lexer.specs.Tokens.{Mark, Lexed}
+use Rattle.lexer.specs.Tokens.{Mark, Lexed, is_colon}
 use Rattle.lexer.specs.declared.token.TokenKind.{TokenKind}
 use Rattle.lexer.specs.declared.token.TokenKind.TheVariants as token
 use Rattle.schema_grammar.specs.declared.format.Format.TheVariants as format
@@ -33,7 +33,7 @@ use Rattle.plan_printer.specs.NamedPlans.{NamedSchemes, PlannedTable, led_by_tab
 use Rattle.plan_grammar.specs.LineTokens.{is_keyword, is_scheme, is_table, lex_line}
 use Rattle.plan_grammar.specs.Meanings.{IsTableLine, MeansTable, MeansTableLines, MeansPlan, OpensScheme, OpensTable, is_kept_word}
 use Rattle.plan_grammar.specs.Refusals.{plan_diagnostic_kind}
-use Rattle.plan_grammar.specs.Diagnostics.{ColonDiagnostic, FirstTokenDiagnostic, LabelDiagnostic, NamedDiagnostic, RestDiagnostic, WordDiagnostic, WordsDiagnostic, TableLineDiagnostic, SpansPosition, IsFirstOf, IsFine, RefusesTableLines, is_colon, is_label, line_wanted, name_given, names_with, opens_line, uncovered_attributes, RefusesPlan}
+use Rattle.plan_grammar.specs.Diagnostics.{ColonDiagnostic, FirstTokenDiagnostic, LabelDiagnostic, NamedDiagnostic, RestDiagnostic, WordDiagnostic, WordsDiagnostic, TableLineDiagnostic, SpansPosition, IsFirstOf, IsFine, RefusesTableLines, is_label, line_wanted, name_given, names_with, opens_line, uncovered_attributes, RefusesPlan}
 use Rattle.plan_grammar.proofs.FirstLemmas.{later_fine, no_flaw}
 use Rattle.plan_grammar.proofs.LineLemmas.{lines_beside}
 

@@ -7,7 +7,8 @@ use Rattle.attr_sets.specs.Attributes.{Attributes, none}
 use Rattle.lexer.specs.declared.token.LexError.{LexError}
 use Rattle.lexer.specs.declared.token.TokenKind.{TokenKind}
 use Rattle.lexer.specs.declared.token.TokenKind.TheVariants as token
-use Rattle.lexer.specs.Tokens.{Mark}
+use Rattle.lexer.specs.Tokens.{Mark, is_colon}
+use Rattle.lexer.proofs.KindLemmas.{colon_kind}
 use Rattle.schema_grammar.specs.declared.format.Format.TheVariants as format
 use Rattle.schema_grammar.specs.declared.refusal.SchemaRefusalKind.{SchemaRefusalKind}
 use Rattle.schema_grammar.specs.declared.refusal.SchemaRefusalKind.TheVariants as kind
@@ -24,19 +25,10 @@ use Rattle.plan_grammar.specs.declared.refusal.PlanRefusal.{PlanRefusal}
 use Rattle.plan_grammar.specs.declared.refusal.PlanRefusal.TheVariants as plan
 use Rattle.plan_grammar.specs.Refusals.{plan_diagnostic_kind}
 use Rattle.plan_grammar.specs.Meanings.{is_kept_word}
-use Rattle.plan_grammar.specs.Diagnostics.{ColonDiagnostic, IsFirstOf, LabelDiagnostic, NamedDiagnostic, SpansPosition, is_colon, is_label, wanted_name, wanted_named}
+use Rattle.plan_grammar.specs.Diagnostics.{ColonDiagnostic, IsFirstOf, LabelDiagnostic, NamedDiagnostic, SpansPosition, is_label, wanted_name, wanted_named}
 use Rattle.plan_grammar.specs.Reading.{name_of_token, of_text, read_colon, read_named, read_words, table_of}
 use Rattle.plan_grammar.proofs.FirstLemmas.{first_here, first_later, later_fine, no_flaw}
 use Rattle.plan_grammar.proofs.WordLemmas.{WordsFit, words_fit}
-
-colon_kind : (k : TokenKind) → is_colon k ≡ true → k ≡ token.Colon
-colon_kind token.Colon is = refl
-colon_kind token.Identifier is = cc
-colon_kind token.Quoted is = cc
-colon_kind (token.Number n) is = cc
-colon_kind token.Arrow is = cc
-colon_kind token.DoubleArrow is = cc
-colon_kind token.Empty is = cc
 
 -- ---- after the name
 -- `:` and attributes

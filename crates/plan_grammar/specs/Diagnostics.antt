@@ -3,12 +3,12 @@
 use Rattle.std.specs.Prelude.{◌≡◌, ◌≤◌, ◌⊎◌, ℕ, ◌+◌, zero, suc, Bool, true, false, not, ◌&&◌, ◌||◌, if◌then◌else◌, List, [], ◌∷◌, ◌++◌, length, Option, Some, None}
 use Rattle.std.specs.List.{list_any}
 use Rattle.attr_sets.specs.Attributes.{Attributes, below, IsFirstFrom}
-use Rattle.dep_model.specs.declared.naming.Naming.{Naming}
+use Rattle.schema_model.specs.declared.naming.Naming.{Naming}
 use Rattle.lexer.specs.declared.token.LexError.{LexError}
 use Rattle.lexer.specs.declared.token.TokenKind.{TokenKind}
 use Rattle.lexer.specs.declared.token.TokenKind.TheVariants as token
 use Rattle.lexer.specs.Lines.{line_texts, without_mark}
-use Rattle.lexer.specs.Tokens.{Mark}
+use Rattle.lexer.specs.Tokens.{Mark, is_colon}
 use Rattle.schema_grammar.specs.declared.format.Format.TheVariants as format
 use Rattle.schema_grammar.specs.declared.refusal.Span.{Span}
 use Rattle.schema_grammar.specs.declared.refusal.What.{What}
@@ -60,11 +60,6 @@ WordsDiagnostic names first (m ∷ ms) stop (suc position) why = WordsDiagnostic
 abbrev pub is_label : TokenKind → Bool
 is_label token.Identifier = true
 is_label _ = false
-
--- whether it is `:`
-abbrev pub is_colon : TokenKind → Bool
-is_colon token.Colon = true
-is_colon _ = false
 
 -- what is wrong with the token after the word `table`, where earlier lines give these names
 abbrev pub LabelDiagnostic : List (Option (List ℕ)) → Mark → DiagnosticKind → Type 0

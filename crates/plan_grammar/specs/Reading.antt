@@ -3,11 +3,11 @@
 use Rattle.std.specs.Prelude.{ℕ, ◌+◌, Bool, true, false, nat_le, if◌then◌else◌, List, [], ◌∷◌, length, Option, Some, None, Result, Ok, Err}
 use Rattle.std.specs.List.{list_any}
 use Rattle.attr_sets.specs.Attributes.{Attributes, none, only, union}
-use Rattle.dep_model.specs.declared.naming.Naming.{Naming}
+use Rattle.schema_model.specs.declared.naming.Naming.{Naming}
 use Rattle.lexer.specs.declared.token.LexError.{LexError}
 use Rattle.lexer.specs.declared.token.TokenKind.{TokenKind}
 use Rattle.lexer.specs.declared.token.TokenKind.TheVariants as token
-use Rattle.lexer.specs.Tokens.{Mark}
+use Rattle.lexer.specs.Tokens.{Mark, is_colon}
 use Rattle.schema_grammar.specs.declared.format.Format.TheVariants as format
 use Rattle.schema_grammar.specs.declared.refusal.SchemaRefusal.{SchemaRefusal}
 use Rattle.schema_grammar.specs.declared.refusal.SchemaRefusalKind.{SchemaRefusalKind}
@@ -23,7 +23,7 @@ use Rattle.table_names.specs.TableNames.{is_given}
 use Rattle.plan_printer.specs.NamedPlans.{NamedSchemes, PlannedTable, with_table}
 use Rattle.plan_grammar.specs.LineTokens.{is_table, lex_line}
 use Rattle.plan_grammar.specs.Meanings.{is_kept_word}
-use Rattle.plan_grammar.specs.Diagnostics.{wanted_after, opens_line, is_colon}
+use Rattle.plan_grammar.specs.Diagnostics.{wanted_after, opens_line}
 
 -- an error of the text
 abbrev pub of_text : {X : Type 0} → Result X SchemaRefusal → Result X PlanRefusal

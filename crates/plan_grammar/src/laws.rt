@@ -12,9 +12,9 @@ ghost use Rattle.schema_printer.specs.Spelling.{spelling};
 ghost use Rattle.plan_grammar.specs.Reading.{read_table_lines};
 ghost use Rattle.plan_grammar.specs.declared.refusal.PlanRefusal.{PlanRefusal};
 
-use dep_model::Naming;
 use plans::MOST_SCHEMES;
 use schema_grammar::Format;
+use schema_model::Naming;
 
 /// Lines are read as the tables that they mean.
 pub fn lines_are_read()

@@ -10,9 +10,9 @@ use Rattle.attr_sets.specs.declared.set.AttrSet.{AttrSet}
 use Rattle.csv_migrate.specs.Migration.{table_of, tables_from}
 use Rattle.dep_model.specs.Plans.{schemes_of}
 use Rattle.dep_model.specs.Projections.{ordered_projection}
-use Rattle.dep_model.specs.Schemas.{width_of, theory_of, LegalFor}
+use Rattle.schema_model.specs.Schemas.{width_of, theory_of, LegalFor}
 use Rattle.dep_model.specs.Tuples.{Relation}
-use Rattle.dep_model.specs.declared.schema.Schema.{Schema}
+use Rattle.schema_model.specs.Schemas.{Schema}
 use Rattle.ddl_text.specs.Designs.{IsTableOf}
 use Rattle.ddl_text.specs.KeysAndReferences.{KeyHolds, ReferenceHolds}
 use Rattle.ddl_text.specs.declared.table.TableDesign.{TableDesign}

@@ -10,8 +10,8 @@ use Rattle.dep_model.proofs.DepLemmas.{dependencies_all-from}
 use Rattle.dep_model.specs.Dependencies.{Dependency, fd, mvd, IsWithin}
 use Rattle.dep_model.specs.Plans.{IsPlan, schemes_of}
 use Rattle.dep_model.specs.Projections.{members_below}
-use Rattle.dep_model.specs.Schemas.{deps_of, nullable_of, theory_of, width_of}
-use Rattle.dep_model.specs.declared.schema.Schema.{Schema}
+use Rattle.schema_model.specs.Schemas.{deps_of, nullable_of, theory_of, width_of}
+use Rattle.schema_model.specs.Schemas.{Schema}
 use Rattle.min_cover.proofs.CoverLemmas.{fixed_is_minimal, thinned_all}
 use Rattle.min_cover.proofs.ListLemmas.{All-flat_map-from, AllZip-to}
 use Rattle.min_cover.proofs.MemberLemmas.{members_are}

@@ -3,9 +3,9 @@ use Rattle.std.proofs.Common.{◌≡◌, ◌∙◌, List, ap, sym, subst}
 use Rattle.attr_sets.specs.Attributes.{Attributes}
 use Rattle.attr_sets.specs.declared.set.AttrSet.{AttrSet}
 use Rattle.dep_model.specs.Plans.{schemes_of}
-use Rattle.dep_model.specs.Schemas.{width_of, theory_of, nullable_of}
+use Rattle.schema_model.specs.Schemas.{width_of, theory_of, nullable_of}
 use Rattle.dep_model.specs.Tuples.{Relation}
-use Rattle.dep_model.specs.declared.schema.Schema.{Schema}
+use Rattle.schema_model.specs.Schemas.{Schema}
 use Rattle.ddl_text.specs.declared.table.TableDesign.{TableDesign}
 use Rattle.named_tables.specs.Tables.{TableValue}
 use Rattle.table_names.specs.TableNames.{GivenNames}

@@ -8,8 +8,8 @@ use Rattle.attr_sets.specs.declared.set.AttrSet.{AttrSet}
 use Rattle.attr_sets.specs.declared.set.TheConstants.{MOST_ATTRIBUTES}
 use Rattle.attr_sets.proofs.AttributesLemmas.{attributes_below}
 use Rattle.dep_model.specs.Plans.{schemes_of}
-use Rattle.dep_model.specs.Schemas.{width_of, theory_of, nullable_of}
-use Rattle.dep_model.specs.declared.schema.Schema.{Schema}
+use Rattle.schema_model.specs.Schemas.{width_of, theory_of, nullable_of}
+use Rattle.schema_model.specs.Schemas.{Schema}
 use Rattle.primary_keys.specs.PrimaryKeys.{IsPrimaryKey}
 use Rattle.primary_keys.proofs.PrimaryLemmas.{one_primary_below}
 use Rattle.ddl_text.specs.Designs.{RefersTo, without_key, AreListedBeside, IsBeyondListing, AreOtherKeys, known_keys, IsTableOf, IsDesign}
@@ -21,7 +21,7 @@ use Rattle.table_names.specs.TableNames.{GivenNames, name_of_table}
 use Rattle.sql_check_laws.proofs.EachLemmas.{filter-map}
 use Rattle.implication_laws.proofs.OneAnswer.{all_or_many}
 use Rattle.implication_laws.proofs.OneKey.{one_keys}
-use Rattle.implication_laws.proofs.OrderedLists.{HoldsAll, one_ordered_list}
+use Rattle.dep_model.proofs.OrderedLists.{HoldsAll, one_ordered_list}
 use Rattle.desk_designs.specs.Designs.{IsSoundDesign}
 use Rattle.plan_laws.specs.SameDesigns.{IsSameTable, AreSameTables}
 

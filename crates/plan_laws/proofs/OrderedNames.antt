@@ -1,12 +1,12 @@
 -- Names that are apart stay so in the order of a design, since being apart is the same both ways.
-use Rattle.std.proofs.Common.{◌≡◌, ◌≢◌, ◌<◌, ◌+◌, ◌==◌, ℕ, zero, suc, ◌⊎◌, inl, inr, ⊎_elim, List, [], ◌∷◌, ◌++◌, get_or, Option, Some, None, if◌then◌else◌, refl, subst, ◌∙◌, sym, arith}
+use Rattle.std.proofs.Common.{◌≡◌, ◌≢◌, ◌<◌, ◌+◌, ◌==◌, ℕ, zero, suc, ◌⊎◌, inl, inr, ⊎_elim, List, [], ◌∷◌, get_or, Option, Some, None, if◌then◌else◌, refl, subst, ◌∙◌, sym, arith}
 use Rattle.std.specs.Prelude.{All, AllPairs, Contains}
 use Rattle.std.proofs.lemmas.Bool.{cases_Bool, eqb-true}
 use Rattle.std.proofs.lemmas.List.Elements.{All-contains, Contains-append_cases, Contains-get_or}
 use Rattle.attr_sets.specs.Attributes.{Attributes}
 use Rattle.dep_model.specs.Dependencies.{Dependency}
-use Rattle.dep_model.proofs.DistinctLemmas.{all_pairs_cons}
 use Rattle.dep_model.proofs.ListLemmas.{Contains-head, Contains-later, Contains-cases}
+use Rattle.dep_model.proofs.PairLemmas.{all_pairs_cons, first_pairs, later_pairs, pairs_append}
 use Rattle.design_order.specs.Order.{AreNamesInOrder, grouped_below, with_number}
 use Rattle.plan_printer.specs.NamedPlans.{ApartFrom, AreApart, IsOwnName}
 use Rattle.table_names.specs.TableNames.{GivenNames}
@@ -17,25 +17,6 @@ apart_turned : (one other : Option (List ℕ)) → ApartFrom one other → Apart
 apart_turned None other apart = tt
 apart_turned (Some a) None apart = refl
 apart_turned (Some a) (Some b) apart = name_turned b a apart
-
--- ---- pairs of a list
-module _ {X : Type 0} (R : X → X → Type 0) where
-  later_pairs : (x : X) (xs : List X) → AllPairs R (x ∷ xs) → AllPairs R xs
-  later_pairs x xs pairs i j d before l = pairs (suc i) (suc j) d (omega (arith, before)) (omega (arith, l))
-
-  first_pairs : (x : X) (xs : List X) (y : X) → AllPairs R (x ∷ xs) → Contains xs y → R x y
-  first_pairs x xs y pairs listed =
-      subst (λ (z : X). R x z) listed.2 (pairs 0 (suc listed.0) y (omega arith) (omega (arith, listed.1)))
-
-  pairs_joined : (xs ys : List X) → AllPairs R xs → AllPairs R ys
-      → ((x y : X) → Contains xs x → Contains ys y → R x y) → AllPairs R (xs ++ ys)
-  pairs_joined [] ys first second across = second
-  pairs_joined (x ∷ xs) ys first second across =
-      all_pairs_cons R x (xs ++ ys)
-      (λ y listed. ⊎_elim (λ before. first_pairs x xs y first before) (λ after. across x y (Contains-head x xs) after)
-      (Contains-append_cases xs ys y listed))
-      (pairs_joined xs ys (later_pairs x xs first) second
-      (λ z y in_first in_second. across z y (Contains-later x xs z in_first) in_second))
 
 -- ---- groups
 -- one with a number beside it is the first, whose number that is, or a later one
@@ -109,7 +90,7 @@ module _ {X : Type 0} (R : X → X → Type 0) (turned : (x y : X) → R x y →
   below_pairs : (number : ℕ) (xs : List X) (ms : List ℕ) → AllPairs R xs → AllPairs R (grouped_below number xs ms)
   below_pairs zero xs ms pairs = λ i j d before l. absurd (omega (arith, l))
   below_pairs (suc number) xs ms pairs =
-      pairs_joined R (grouped_below number xs ms) (with_number number xs ms)
+      pairs_append R (grouped_below number xs ms) (with_number number xs ms)
       (below_pairs number xs ms pairs) (with_pairs number xs ms pairs)
       (λ x y. across_below number number (omega arith) xs ms pairs x y)
 

@@ -10,8 +10,8 @@ use Rattle.attr_sets.specs.declared.set.AttrSet.{AttrSet}
 use Rattle.chase_laws.proofs.RoundLemmas.{functional_within_limit}
 use Rattle.dep_model.specs.Dependencies.{Dependency, mvd}
 use Rattle.dep_model.specs.Plans.{schemes_of}
-use Rattle.dep_model.specs.Schemas.{width_of, theory_of}
-use Rattle.dep_model.specs.declared.schema.Schema.{Schema}
+use Rattle.schema_model.specs.Schemas.{width_of, theory_of, theory_in}
+use Rattle.schema_model.specs.Schemas.{Schema}
 use Rattle.dep_model.proofs.FormLemmas.{fourth_bcnf}
 use Rattle.dep_model.proofs.ListLemmas.{Any-from}
 use Rattle.implication_laws.proofs.OnePlanAnswer.{failing_in_plan}
@@ -141,7 +141,7 @@ pub wide_split_form : (s : Schema) (plan : List AttrSet) → IsWideSplit s plan 
 wide_split_form s plan is =
     form_passes s Bcnf (schemes_of plan)
     (λ other. plan_all (λ (x : Attributes). IsSubset x (below (width_of s))) is.split.all plan is.split.kept
-    (schema_parts s is.split.all is.split.split).within)
+    (schema_parts (theory_in s) is.split.all is.split.split).within)
     is.bcnf
 
 pub wide_split_join : (s : Schema) (plan : List AttrSet) → IsWideSplit s plan → PassesCheckJoin s (schemes_of plan)

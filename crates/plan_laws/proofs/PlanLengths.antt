@@ -14,8 +14,8 @@ use Rattle.dep_model.specs.Dependencies.{Dependency, fd, left_of, mvd}
 use Rattle.dep_model.specs.Deps.{dependency_of}
 use Rattle.dep_model.specs.Plans.{schemes_of}
 use Rattle.dep_model.specs.Projections.{members_below}
-use Rattle.dep_model.specs.Schemas.{deps_of, theory_of, width_of}
-use Rattle.dep_model.specs.declared.schema.Schema.{Schema}
+use Rattle.schema_model.specs.Schemas.{deps_of, theory_of, width_of}
+use Rattle.schema_model.specs.Schemas.{Schema}
 use Rattle.wide_bcnf.proofs.SplitLemmas.{length-without_contained_after}
 use Rattle.design_order.specs.Order.{IsInDesignOrder, grouped_below, with_number}
 use Rattle.min_cover.specs.Covers.{IsThinned}

@@ -7,9 +7,9 @@ use Rattle.attr_sets.specs.Attributes.{Attributes}
 use Rattle.csv_migrate.specs.Migration.{tables_from, relations_of}
 use Rattle.dep_model.specs.Dependencies.{Dependency}
 use Rattle.dep_model.specs.Projections.{ordered_projection, IsLossless}
-use Rattle.dep_model.specs.Schemas.{width_of, theory_of, LegalFor}
+use Rattle.schema_model.specs.Schemas.{width_of, theory_of, LegalFor}
 use Rattle.dep_model.specs.Tuples.{Relation}
-use Rattle.dep_model.specs.declared.schema.Schema.{Schema}
+use Rattle.schema_model.specs.Schemas.{Schema}
 use Rattle.dep_model.proofs.JoinLemmas.{lossless_from}
 use Rattle.dep_model.proofs.ListLemmas.{Any-from, Contains-cases, Contains-head, Contains-later, Contains-map}
 use Rattle.design_order.proofs.OrderLemmas.{one_order, order-lossless}

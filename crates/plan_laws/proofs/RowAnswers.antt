@@ -6,9 +6,9 @@ use Rattle.attr_sets.specs.declared.set.AttrSet.{AttrSet}
 use Rattle.csv_migrate.specs.Migration.{tables_of_migration}
 use Rattle.csv_text.specs.Rows.{rows_text}
 use Rattle.dep_model.specs.Plans.{schemes_of}
-use Rattle.dep_model.specs.Schemas.{names_of, width_of, theory_of, LegalFor, naming_of}
+use Rattle.schema_model.specs.Schemas.{names_of, width_of, theory_of, LegalFor, naming_of}
 use Rattle.dep_model.specs.Tuples.{Relation}
-use Rattle.dep_model.specs.declared.schema.Schema.{Schema}
+use Rattle.schema_model.specs.Schemas.{Schema}
 use Rattle.design_order.proofs.OrderLemmas.{one_order}
 use Rattle.legality.proofs.OffenceLaws.{one_list}
 use Rattle.named_tables.specs.Tables.{TableValue}

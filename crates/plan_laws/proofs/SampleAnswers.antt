@@ -9,10 +9,10 @@ use Rattle.dep_model.specs.Dependencies.{Dependency}
 use Rattle.dep_model.specs.Implication.{IsLegal}
 use Rattle.dep_model.specs.Plans.{schemes_of}
 use Rattle.dep_model.specs.Projections.{members_below, ordered_projection, IsLossless}
-use Rattle.dep_model.specs.Schemas.{names_of, naming_of, nullable_of, width_of, theory_of, LegalFor}
+use Rattle.schema_model.specs.Schemas.{names_of, naming_of, nullable_of, width_of, theory_of, LegalFor}
 use Rattle.dep_model.specs.Tuples.{Relation}
-use Rattle.dep_model.specs.declared.naming.Naming.{Naming}
-use Rattle.dep_model.specs.declared.schema.Schema.{Schema}
+use Rattle.schema_model.specs.declared.naming.Naming.{Naming}
+use Rattle.schema_model.specs.Schemas.{Schema}
 use Rattle.design_order.specs.Order.{IsInDesignOrder}
 use Rattle.named_tables.specs.Tables.{TableValue}
 use Rattle.normal_forms.specs.Chosen.{IsInForm}

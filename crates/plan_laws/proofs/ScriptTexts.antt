@@ -1,13 +1,14 @@
 -- Two designs that are the same table by table have one script.
-use Rattle.std.proofs.Common.{◌≡◌, ℕ, zero, suc, Bool, true, false, List, [], ◌∷◌, ◌++◌, length, get_or, map, refl, sym, ap, subst, ◌∙◌}
+use Rattle.std.proofs.Common.{◌≡◌, ℕ, zero, suc, Bool, true, false, not, List, [], ◌∷◌, ◌++◌, length, get_or, map, refl, sym, ap, subst, ◌∙◌}
 use mathlib.Core.Path.{fun_ext}
 use Rattle.std.proofs.lemmas.List.{reverse-append}
 use Rattle.std.specs.Prelude.{if◌then◌else◌, reverse, is_some, codes}
 use Rattle.std.specs.List.{AllZip}
 use Rattle.attr_sets.specs.Attributes.{Attributes, none, union, intersection}
-use Rattle.attr_sets.specs.Sets.{attributes}
-use Rattle.dep_model.specs.declared.schema.Schema.{Schema}
-use Rattle.dep_model.specs.Schemas.{universe_of}
+use Rattle.attr_sets.specs.Sets.{attributes, is_disjoint}
+use Rattle.dep_model.specs.JoinOrders.{put_first, of_first, joined_next}
+use Rattle.schema_model.specs.Schemas.{Schema}
+use Rattle.schema_model.specs.Schemas.{universe_of}
 use Rattle.ddl_text.specs.Ddl.{is_empty}
 use Rattle.ddl_text.specs.Designs.{known_keys}
 use Rattle.ddl_text.specs.declared.table.TableDesign.{TableDesign}
@@ -17,8 +18,7 @@ use Rattle.sql_syntax.specs.Statements.{Element, unique_key, Statement, remark, 
 use Rattle.sql_migrate.specs.declared.joining.JoinedTable.{JoinedTable}
 use Rattle.sql_migrate.specs.Moving.{attribute_names}
 use Rattle.sql_migrate.specs.Created.{columns_made, stated_keys, left_out_keys, key_made, keys_made, reference_made, references_made, elements_made, left_out_words, said_of, remarks_made, table_made, tables_made}
-use Rattle.sql_migrate.specs.ViewOrder.{share, put_first, of_first, joined_next, view_order}
-use Rattle.sql_migrate.specs.Script.{copy_name, view_name, copy_query, fill, link, links, join_of, joined_tables, view_query, testing}
+use Rattle.sql_migrate.specs.Script.{copy_name, view_name, copy_query, fill, link, links, join_of, joined_tables, scheme_of_joined, view_order, view_query, testing}
 use Rattle.sql_scripts.specs.Migrating.{migrate_text}
 use Rattle.plan_laws.specs.SameDesigns.{IsSameTable, AreSameTables}
 
@@ -130,7 +130,7 @@ length_same (t ∷ ts) [] same = absurd same
 length_same (t ∷ ts) (u ∷ us) same = ap (λ (n : ℕ). suc n) (length_same ts us same.1)
 
 abbrev shares : Attributes → JoinedTable → Bool
-shares seen t = share seen (attributes t.scheme)
+shares seen t = not (is_disjoint seen (attributes t.scheme))
 
 alike_put : (seen : Attributes) (passed before one other : List JoinedTable) → AreAlike passed before → AreAlike one other
     → AreAlike (put_first (shares seen) passed one) (put_first (shares seen) before other)
@@ -139,7 +139,7 @@ alike_put seen passed before [] (u ∷ us) front same = absurd same
 alike_put seen passed before (t ∷ ts) [] front same = absurd same
 alike_put seen passed before (t ∷ ts) (u ∷ us) front same =
     subst (λ (b : Bool). AreAlike (put_first (shares seen) passed (t ∷ ts)) (if b then u ∷ (before ++ us) else put_first (shares seen) (before ++ u ∷ []) us))
-    (ap (share seen) same.0.columns)
+    (ap (λ (x : Attributes). not (is_disjoint seen x)) same.0.columns)
     (by_test (shares seen t) (alike_put seen (passed ++ t ∷ []) (before ++ u ∷ []) ts us (alike_after passed before (t ∷ []) (u ∷ []) front (same.0, tt)) same.1))
   where
     by_test : (b : Bool) → AreAlike (put_first (shares seen) (passed ++ t ∷ []) ts) (put_first (shares seen) (before ++ u ∷ []) us)
@@ -148,27 +148,27 @@ alike_put seen passed before (t ∷ ts) (u ∷ us) front same =
     by_test true later = (same.0, alike_after passed before ts us front same.1)
     by_test false later = later
 
-alike_next : (n : ℕ) (seen : Attributes) (one other : List JoinedTable) → AreAlike one other → AreAlike (joined_next n seen one) (joined_next n seen other)
+alike_next : (n : ℕ) (seen : Attributes) (one other : List JoinedTable) → AreAlike one other → AreAlike (joined_next scheme_of_joined n seen one) (joined_next scheme_of_joined n seen other)
 alike_next zero seen one other same = tt
 alike_next (suc n) seen one other same =
     first_of (put_first (shares seen) [] one) (put_first (shares seen) [] other) (alike_put seen [] [] one other tt same) (alike_next n)
   where
     first_of : (found found' : List JoinedTable) → AreAlike found found'
-        → ((z : Attributes) (ts us : List JoinedTable) → AreAlike ts us → AreAlike (joined_next n z ts) (joined_next n z us))
-        → AreAlike (of_first (λ table rest. table ∷ joined_next n (union seen (attributes table.scheme)) rest) found)
-        (of_first (λ table rest. table ∷ joined_next n (union seen (attributes table.scheme)) rest) found')
+        → ((z : Attributes) (ts us : List JoinedTable) → AreAlike ts us → AreAlike (joined_next scheme_of_joined n z ts) (joined_next scheme_of_joined n z us))
+        → AreAlike (of_first (λ table rest. table ∷ joined_next scheme_of_joined n (union seen (attributes table.scheme)) rest) found)
+        (of_first (λ table rest. table ∷ joined_next scheme_of_joined n (union seen (attributes table.scheme)) rest) found')
     first_of [] [] alike later = tt
     first_of [] (u ∷ us) alike later = absurd alike
     first_of (t ∷ ts) [] alike later = absurd alike
     first_of (t ∷ ts) (u ∷ us) alike later = (
       alike.0,
-      subst (λ (z : Attributes). AreAlike (joined_next n (union seen (attributes t.scheme)) ts) (joined_next n (union seen z) us)) alike.0.columns
+      subst (λ (z : Attributes). AreAlike (joined_next scheme_of_joined n (union seen (attributes t.scheme)) ts) (joined_next scheme_of_joined n (union seen z) us)) alike.0.columns
           (later (union seen (attributes t.scheme)) ts us alike.1),
     )
 
 alike_order : (one other : List JoinedTable) → AreAlike one other → AreAlike (view_order one) (view_order other)
 alike_order one other same =
-    subst (λ (n : ℕ). AreAlike (view_order one) (joined_next n none (reverse other))) (length_same one other same)
+    subst (λ (n : ℕ). AreAlike (view_order one) (joined_next scheme_of_joined n none (reverse other))) (length_same one other same)
     (alike_next (length one) none (reverse one) (reverse other) (alike_reversed one other same))
 
 links_same : (s : Schema) (seen : Attributes) (one other : List JoinedTable) → AreAlike one other → links s seen one ≡ links s seen other

@@ -2,8 +2,8 @@
 use Rattle.std.proofs.Common.{◌≡◌, List, sym, ap, ◌∙◌, inl, inr}
 use Rattle.attr_sets.specs.declared.set.AttrSet.{AttrSet}
 use Rattle.dep_model.specs.Plans.{schemes_of}
-use Rattle.dep_model.specs.Schemas.{width_of, theory_of}
-use Rattle.dep_model.specs.declared.schema.Schema.{Schema}
+use Rattle.schema_model.specs.Schemas.{width_of, theory_of}
+use Rattle.schema_model.specs.Schemas.{Schema}
 use Rattle.dep_model.specs.declared.form.Form.{Form}
 use Rattle.dep_model.specs.declared.form.Form.TheVariants.{Third, Bcnf, Fourth}
 use Rattle.plan_printer.specs.Printing.{plan_text}

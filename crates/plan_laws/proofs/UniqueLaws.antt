@@ -14,10 +14,10 @@ use Rattle.csv_text.specs.Rows.{rows_text}
 use Rattle.chase_laws.proofs.UniqueLemmas.{closed_unique}
 use Rattle.dep_model.specs.Dependencies.{Dependency, fd, mvd, functional_part}
 use Rattle.dep_model.specs.Plans.{IsPlan, schemes_of}
-use Rattle.dep_model.specs.Schemas.{names_of, width_of, theory_of}
+use Rattle.schema_model.specs.Schemas.{names_of, width_of, theory_of}
 use Rattle.dep_model.specs.Tuples.{Relation}
 use Rattle.dep_model.specs.TwoTuples.{two_tuples}
-use Rattle.dep_model.specs.declared.schema.Schema.{Schema}
+use Rattle.schema_model.specs.Schemas.{Schema}
 use Rattle.dep_model.proofs.ListLemmas.{Contains-head}
 use Rattle.dep_model.specs.declared.form.Form.{Form}
 use Rattle.dep_model.specs.declared.form.Form.TheVariants.{Third}
@@ -232,11 +232,11 @@ one_keeping s plan one other (inr (lost, found)) (inr (lost', found')) =
     let tuples : two_tuples_text s found.0 ≡ two_tuples_text s found'.0 =
     ap (λ (x : Attributes). line (codes "shown by") ++ rows_text (names_of s) (shown_tuples s x))
     same.0.agreement in
-    found.3
+    found.4
     ∙ ap (λ (text : List ℕ). text_only No (text ++ two_tuples_text s found.0))
     (same_text s (found.0 ∷ found.1) (found'.0 ∷ found'.1) same)
     ∙ ap (λ (text : List ℕ). text_only No (flat_map (loss_text s) (found'.0 ∷ found'.1) ++ text)) tuples
-    ∙ sym found'.3
+    ∙ sym found'.4
 
 -- ---- `check form`
 ends_fails : (s : Schema) (form : Form) (scheme : Attributes) (response : ResponseValue)

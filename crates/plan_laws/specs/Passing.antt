@@ -2,8 +2,8 @@
 -- cite it.
 use Rattle.std.specs.Prelude.{◌≡◌, ◌⊎◌, List, Any}
 use Rattle.attr_sets.specs.Attributes.{Attributes}
-use Rattle.dep_model.specs.declared.schema.Schema.{Schema}
-use Rattle.dep_model.specs.Schemas.{theory_of}
+use Rattle.schema_model.specs.Schemas.{Schema}
+use Rattle.schema_model.specs.Schemas.{theory_of}
 use Rattle.dep_model.specs.declared.form.Form.{Form}
 use Rattle.fd_closure.specs.LeftSides.{IsWideScheme}
 use Rattle.desk_responses.specs.declared.status.Status.TheVariants.{Yes, Refused}

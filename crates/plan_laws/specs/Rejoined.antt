@@ -3,9 +3,9 @@ use Rattle.std.specs.Prelude.{◌≡◌, ◌⊎◌, ◌↔◌, ℕ, List, Contai
 use Rattle.attr_sets.specs.Attributes.{Attributes}
 use Rattle.csv_migrate.specs.Migration.{relations_of}
 use Rattle.csv_text.specs.Rows.{rows_text}
-use Rattle.dep_model.specs.Schemas.{names_of, width_of, theory_of}
+use Rattle.schema_model.specs.Schemas.{names_of, width_of, theory_of}
 use Rattle.dep_model.specs.Tuples.{Relation, SameRelation}
-use Rattle.dep_model.specs.declared.schema.Schema.{Schema}
+use Rattle.schema_model.specs.Schemas.{Schema}
 use Rattle.design_order.specs.Order.{IsInDesignOrder}
 use Rattle.named_tables.specs.Tables.{TableValue}
 use Rattle.schema_printer.specs.Spelling.{printed_names_of}

@@ -3,7 +3,7 @@
 ghost use Rattle.std.specs.Prelude.{◌≤◌, ℕ, List};
 ghost use Rattle.attr_sets.specs.Attributes.{Attributes};
 ghost use Rattle.dep_model.specs.Tuples.{Relation};
-ghost use Rattle.dep_model.specs.declared.schema.Schema.{Schema};
+ghost use Rattle.schema_model.specs.Schemas.{Schema};
 ghost use Rattle.dep_model.specs.declared.form.Form.{Form};
 ghost use Rattle.sample_rows.specs.declared.rows.TheConstants.{MOST_PERSONS};
 ghost use Rattle.table_join.specs.Tables.{PartialRelation};

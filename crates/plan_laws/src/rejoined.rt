@@ -3,13 +3,13 @@
 ghost use Rattle.std.specs.Prelude.{◌≡◌, List};
 ghost use Rattle.attr_sets.specs.Attributes.{Attributes};
 ghost use Rattle.attr_sets.specs.Sets.{attributes};
-ghost use Rattle.dep_model.specs.Schemas.{LegalFor};
+ghost use Rattle.dep_model.specs.JoinOrders.{from_last};
+ghost use Rattle.schema_model.specs.Schemas.{LegalFor};
 ghost use Rattle.dep_model.specs.Tuples.{Relation};
-ghost use Rattle.dep_model.specs.declared.schema.Schema.{Schema};
-ghost use Rattle.sql_migrate.specs.ViewOrder.{view_order};
+ghost use Rattle.schema_model.specs.Schemas.{Schema};
+ghost use Rattle.sql_migrate.specs.Script.{view_order};
 ghost use Rattle.sql_migrate.specs.declared.joining.JoinedTable.{JoinedTable};
 ghost use Rattle.named_tables.specs.Tables.{TableValue};
-ghost use Rattle.table_join.specs.Orders.{from_last};
 ghost use Rattle.table_join.specs.Tables.{PartialRelation};
 ghost use Rattle.table_names.specs.TableNames.{GivenNames};
 ghost use Rattle.desk_designs.specs.Joins.{LosesNothing};

@@ -11,8 +11,8 @@ use Rattle.std.proofs.lemmas.Bool.Decides.{nat_tests}
 use Rattle.std.proofs.lemmas.Fmt.{decimal_injective, decimal_nonempty, digits_decimal}
 use Rattle.std.proofs.lemmas.List.{length-map}
 use Rattle.std.proofs.lemmas.Slice.Eq.{bytes_eq-Decides}
-use Rattle.dep_model.specs.Names.{same_name}
-use Rattle.dep_model.proofs.NumeralLemmas.{decimal_numeral_model}
+use Rattle.schema_model.specs.Names.{same_name}
+use Rattle.schema_model.proofs.NumeralLemmas.{decimal_numeral_model}
 use Rattle.plan_printer.specs.NamedPlans.{ApartFrom, AreApart, IsOwnName}
 use Rattle.table_names.specs.TableNames.{GivenNames, is_taken, name_of_table, table_name}
 

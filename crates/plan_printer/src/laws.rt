@@ -1,5 +1,5 @@
 ghost use Rattle.std.specs.Prelude.{◌≡◌, ◌+◌, ◌<◌, ◌^◌, ℕ, false};
-ghost use Rattle.dep_model.specs.Names.{same_name};
+ghost use Rattle.schema_model.specs.Names.{same_name};
 ghost use Rattle.plan_printer.specs.NamedPlans.{AreApart};
 ghost use Rattle.table_names.specs.TableNames.{GivenNames, name_of_table};
 

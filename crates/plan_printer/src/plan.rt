@@ -1,5 +1,5 @@
-use dep_model::Name;
 use plans::Plan;
+use schema_model::Name;
 
 /// A plan with names of tables.
 #[derive(Debug, Drop)]

@@ -2,22 +2,23 @@ ghost use Rattle.std.specs.Prelude.{◌≡◌, ◌∷◌, ◌++◌, [], All, IfO
 ghost use Rattle.attr_sets.specs.Attributes.{IsSubset, IsEmpty};
 ghost use Rattle.attr_sets.specs.Sets.{attributes};
 ghost use Rattle.dep_model.specs.Plans.{schemes_of};
-ghost use Rattle.dep_model.specs.Schemas.{universe_of};
+ghost use Rattle.schema_model.specs.Schemas.{universe_of, theory_in};
 ghost use Rattle.schema_printer.specs.Spelling.{printed_names_of};
 ghost use Rattle.plan_printer.specs.Printing.{scheme_text, plan_text};
 ghost use Rattle.plans.specs.Plans.{plan_of, IsPlanOver};
 
 use attr_sets::AttrSet;
 use byte_texts::add;
-use dep_model::{OutOfMemory, Schema};
+use dep_model::OutOfMemory;
 use plans::Plan;
+use schema_model::Schema;
 use schema_printer::add_set;
 use std::alloc::Global;
 
 /// The plan in the one form: a line for each scheme. Where no name is reserved, and it is short enough to
 /// be read, it means the same schemes.
 pub fn print_plan(alloc: Global, schema: &Schema, plan: &Plan) -> Result<Vec<u8>, OutOfMemory>
-    requires universe { IsPlanOver schema.now plan.now }
+    requires universe { IsPlanOver (theory_in schema.now) plan.now }
     ensures text { IfOk result (λ text. text.items ≡ plan_text (printed_names_of schema.now) (plan_of plan.now)) }
 {
     let mut text = Vec::new(alloc);

@@ -1,9 +1,9 @@
 -- Reading a plan text line by line, and a line word by word.
 use Rattle.std.proofs.Common.{◌≡◌, ◌<◌, ◌+◌, ◌^◌, ℕ, Bool, true, false, List, [], ◌∷◌, ◌++◌, length, Option, Some, Result, Ok, Err, refl, sym, ap, ◌∙◌, arith}
 use Rattle.attr_sets.specs.Attributes.{Attributes, none, only, union}
-use Rattle.dep_model.specs.declared.naming.Naming.{Naming}
+use Rattle.schema_model.specs.declared.naming.Naming.{Naming}
 use Rattle.lexer.specs.Lines.{line_texts, CutsAt}
-use Rattle.lexer.specs.Tokens.{Mark}
+use Rattle.lexer.specs.Tokens.{Mark, is_colon}
 use Rattle.schema_grammar.specs.declared.refusal.SchemaRefusal.{SchemaRefusal}
 use Rattle.schema_grammar.specs.declared.refusal.SchemaRefusalKind.{SchemaRefusalKind}
 use Rattle.schema_grammar.specs.declared.refusal.SchemaRefusalKind.TheVariants as kind
@@ -11,7 +11,6 @@ use Rattle.schema_grammar.specs.declared.refusal.What.TheVariants as what
 use Rattle.schema_grammar.specs.Refusals.{refusal, at}
 use Rattle.plan_printer.specs.NamedPlans.{NamedSchemes, PlannedTable, no_tables, with_table}
 use Rattle.plan_grammar.specs.LineTokens.{lex_line}
-use Rattle.plan_grammar.specs.Diagnostics.{is_colon}
 use Rattle.schema_grammar.specs.Rests.{Rest, ◌>>=◌}
 use Rattle.tokens.specs.Views.{HasEnded, IsStopped, IsLed}
 use Rattle.plan_grammar.specs.declared.refusal.PlanRefusal.{PlanRefusal}

@@ -4,11 +4,11 @@ ghost use Rattle.attr_sets.specs.Attributes.{IsFirstFrom};
 ghost use Rattle.attr_sets.specs.Sets.{attributes};
 ghost use Rattle.dep_model.specs.Plans.{schemes_of};
 ghost use Rattle.dep_model.specs.Projections.{Covers};
-ghost use Rattle.dep_model.specs.Schemas.{width_of};
+ghost use Rattle.schema_model.specs.Schemas.{width_of};
 ghost use Rattle.plan_grammar.specs.Diagnostics.{uncovered_attributes};
 
 use attr_sets::AttrSet;
-use dep_model::Schema;
+use schema_model::Schema;
 
 // The first attribute that is in no scheme.
 pub fn first_uncovered(schema: &Schema, schemes: &[AttrSet]) -> Option<u8>

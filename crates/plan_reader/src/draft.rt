@@ -5,7 +5,8 @@ ghost use Rattle.plan_printer.specs.NamedPlans.{no_tables, with_table};
 ghost use Rattle.plan_reader.specs.Drafts.{drafted, table_read};
 
 use attr_sets::AttrSet;
-use dep_model::{Name, OutOfMemory};
+use dep_model::OutOfMemory;
+use schema_model::Name;
 use std::alloc::Global;
 
 // The schemes, and beside each the name of its table, where one is given.

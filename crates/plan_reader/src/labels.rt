@@ -1,7 +1,7 @@
 //! The name that a line gives to its table, and the `:` after it.
 
 ghost use Rattle.std.specs.Prelude.{◌≡◌, ◌≤◌, ◌||◌, true, length, IfOk, IfErr, Ok, Err};
-ghost use Rattle.dep_model.specs.Names.{is_bare_name};
+ghost use Rattle.schema_model.specs.Names.{is_bare_name};
 ghost use Rattle.lexer.specs.Tokens.{bytes_of};
 ghost use Rattle.lexer.specs.declared.token.TokenKind.TheVariants as kinds;
 ghost use Rattle.tokens.specs.Views.{names_in, rest_of};
@@ -12,10 +12,10 @@ ghost use Rattle.plan_reader.specs.Drafts.{table_read};
 
 use crate::reading::{read_attributes, refusal_of_token};
 use attr_sets::{AttrSet, MOST_ATTRIBUTES};
-use dep_model::Name;
 use lexer::{Token, TokenKind, Word};
 use plan_grammar::PlanRefusal;
 use schema_grammar::{Format, SchemaRefusalKind, What};
+use schema_model::Name;
 use table_names::{is_given, is_taken};
 use tokens::{Cursor, Names, NextToken, is_reserved};
 

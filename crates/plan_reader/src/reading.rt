@@ -2,7 +2,7 @@ ghost use Rattle.std.specs.Prelude.{◌≡◌, ◌+◌, ◌<◌, ◌≤◌, ◌^
 ghost use Rattle.attr_sets.specs.Attributes.{none};
 ghost use Rattle.attr_sets.specs.Sets.{attributes};
 ghost use Rattle.dep_model.specs.Failures.{RefusesAs};
-ghost use Rattle.dep_model.specs.Schemas.{naming_of, names_of};
+ghost use Rattle.schema_model.specs.Schemas.{naming_of, names_of, theory_in};
 ghost use Rattle.lexer.specs.Lines.{line_texts};
 ghost use Rattle.lexer.specs.Tokens.{bytes_of};
 ghost use Rattle.tokens.specs.Views.{names_in, rest_of};
@@ -21,12 +21,13 @@ use crate::draft::Draft;
 use crate::labels::read_named;
 use crate::words::{is_table, line_mode, opens_line};
 use attr_sets::{AttrSet, MOST_ATTRIBUTES};
-use dep_model::{Failure, Name, Schema};
+use dep_model::Failure;
 use lexer::{Token, TokenKind, Word, cut_line, without_mark};
 use plan_grammar::PlanRefusal;
 use plan_printer::NamedPlan;
 use plans::{MOST_SCHEMES, Plan};
 use schema_grammar::{Format, SchemaRefusal, SchemaRefusalKind, What};
+use schema_model::{Name, Schema};
 use std::alloc::Global;
 use tokens::{Cursor, Guide, Names, NextToken, is_reserved_token, look_up};
 
@@ -41,7 +42,7 @@ pub fn read_plan(
     text: &[u8],
 ) -> Result<NamedPlan, Failure<PlanRefusal>>
     requires { length text.now ≤ MOST_PLAN_BYTES }
-    ensures universe { IfOk result (λ planned. IsPlanOver schema.now planned.plan) }
+    ensures universe { IfOk result (λ planned. IsPlanOver (theory_in schema.now) planned.plan) }
     ensures ok { IfOk result (λ planned.
         MeansPlan (naming_of schema.now) (names_of schema.now) text.now (named_schemes planned)) }
     ensures beside { IfOk result (λ planned. length planned.names.items ≡ length (scheme_sets planned.plan)) }
@@ -54,7 +55,7 @@ pub fn read_plan(
     match first_uncovered(schema, &draft.schemes) {
         Some(attribute) => Err(Failure::Refused(PlanRefusal::NotCovered { attribute })),
         None => Ok(NamedPlan {
-            plan: Plan::new(schema, draft.schemes),
+            plan: Plan::new(&schema.theory(), draft.schemes),
             names: draft.names,
         }),
     }

@@ -5,8 +5,8 @@ ghost use Rattle.lexer.specs.Tokens.{bytes_of};
 ghost use Rattle.plan_grammar.specs.Diagnostics.{opens_line};
 ghost use Rattle.plan_grammar.specs.LineTokens.{is_keyword, is_table, line_mode};
 
-use dep_model::Naming;
 use lexer::{Mode, TokenKind, Word};
+use schema_model::Naming;
 use tokens::{Cursor, NextToken};
 
 // Which tokens a line may have: `:` where its first is the word `table`.

@@ -3,7 +3,7 @@ ghost use Rattle.std.specs.List.{list_any};
 ghost use Rattle.attr_sets.specs.declared.set.AttrSet.{AttrSet};
 ghost use Rattle.dep_model.specs.Dependencies.{Dependency};
 ghost use Rattle.dep_model.specs.Projections.{IsLossless};
-ghost use Rattle.dep_model.specs.Schemas.{width_of};
+ghost use Rattle.dep_model.specs.Theories.{width_of};
 ghost use Rattle.dep_model.specs.Plans.{schemes_of};
 ghost use Rattle.plans.specs.Schemes.{AreSchemes};
 ghost use Rattle.plans.specs.Plans.{scheme_sets, plan_of, IsPlanOver};
@@ -11,20 +11,20 @@ ghost use Rattle.plans.specs.Containing.{lies_within, lies_properly_within, is_c
 
 use crate::Plan;
 use attr_sets::AttrSet;
-use dep_model::Schema;
+use dep_model::Theory;
 
 /// The plan without each scheme that lies within another different one or equals an earlier one: what
 /// such a scheme says of a relation, the one that holds it says too.
-pub fn drop_contained(schema: &Schema, plan: Plan) -> Plan
-    requires universe { IsPlanOver schema.now plan }
+pub fn drop_contained(theory: &Theory, plan: Plan) -> Plan
+    requires universe { IsPlanOver theory.now plan }
     ensures schemes { scheme_sets result ≡ without_contained (scheme_sets plan) }
-    ensures universe { IsPlanOver schema.now result }
+    ensures universe { IsPlanOver theory.now result }
     ensures among { All (λ kept. Contains (scheme_sets plan) kept) (scheme_sets result) }
     ensures held { All (λ old. list_any (lies_within old) (scheme_sets result) ≡ true) (scheme_sets plan) }
-    ensures lossless { (ds : List Dependency) → IsLossless (width_of schema.now) ds (plan_of plan)
-        → IsLossless (width_of schema.now) ds (plan_of result) }
+    ensures lossless { (ds : List Dependency) → IsLossless (width_of theory.now) ds (plan_of plan)
+        → IsLossless (width_of theory.now) ds (plan_of result) }
 {
-    Plan::new(schema, without_contained(plan.into_schemes()))
+    Plan::new(theory, without_contained(plan.into_schemes()))
 }
 
 // The schemes of a list without the contained ones.

@@ -1,10 +1,10 @@
 ghost use Rattle.std.specs.Prelude.{◌≡◌};
-ghost use Rattle.dep_model.specs.Schemas.{width_of};
+ghost use Rattle.dep_model.specs.Theories.{width_of};
 ghost use Rattle.dep_model.specs.Plans.{IsPlan, schemes_of};
 ghost use Rattle.plans.specs.Schemes.{AreSchemes};
 
 use attr_sets::AttrSet;
-use dep_model::Schema;
+use dep_model::Theory;
 
 /// A decomposition of a universe: schemes, each a set of some of its attributes, in which each attribute
 /// stands at least once. Their order is the order in which they are printed and in which tables are made.
@@ -19,14 +19,14 @@ impl Plan {
     ghost use Rattle.plans.specs.Plans.{scheme_sets, IsPlanOver};
 
     /// The plan of these schemes over the universe of a schema.
-    pub fn new(schema: &Schema, schemes: Vec<AttrSet>) -> Plan
-        requires plan { IsPlan (width_of schema.now) (schemes_of schemes.items) }
+    pub fn new(theory: &Theory, schemes: Vec<AttrSet>) -> Plan
+        requires plan { IsPlan (width_of theory.now) (schemes_of schemes.items) }
         ensures schemes { scheme_sets result ≡ schemes.items }
-        ensures universe { IsPlanOver schema.now result }
+        ensures universe { IsPlanOver theory.now result }
     {
         Plan {
             schemes,
-            width: schema.width(),
+            width: theory.width(),
         }
     }
 

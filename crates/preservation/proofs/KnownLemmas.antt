@@ -15,9 +15,9 @@ use Rattle.dep_model.specs.Tuples.{Relation}
 use Rattle.dep_model.specs.Dependencies.{Dependency, functional_part}
 use Rattle.dep_model.specs.Keys.{InClosure}
 use Rattle.dep_model.specs.Deps.{dependencies_of, IsDepWithin}
-use Rattle.dep_model.specs.Schemas.{width_of, deps_of, theory_of, universe_of}
+use Rattle.dep_model.specs.Theories.{width_of, deps_of, theory_of, universe_of}
 use Rattle.dep_model.specs.declared.dep.Dep.{Dep}
-use Rattle.dep_model.specs.declared.schema.Schema.{Schema}
+use Rattle.dep_model.specs.Theories.{Theory}
 use Rattle.preservation.specs.declared.scheme_closure.SchemeClosure.{SchemeClosure}
 use Rattle.preservation.specs.SchemeClosures.{IsSchemeClosure, schemes_of_closures, plan_of_closures}
 use Rattle.preservation.specs.Keeping.{ObeysInside}
@@ -28,7 +28,7 @@ abbrev ClosedBy : List Dep → Attributes → Attributes → Type 0
 ClosedBy ds part closed = (n : ℕ) → All (IsDepWithin (below n)) ds → IsSubset part (below n)
     → (a : ℕ) → (closed a ≡ true) ↔ InClosure n (functional_part (dependencies_of ds)) part a
 
-pub closure_over : (s : Schema) (ds : List Dep) (part closed : Attributes) → ds ≡ deps_of s → IsSubset part (universe_of s)
+pub closure_over : (s : Theory) (ds : List Dep) (part closed : Attributes) → ds ≡ deps_of s → IsSubset part (universe_of s)
     → ((n : ℕ) → All (IsDepWithin (below n)) ds → IsSubset part (below n)
     → (a : ℕ) → (closed a ≡ true) ↔ InClosure n (functional_part (dependencies_of ds)) part a)
     → (a : ℕ) → (closed a ≡ true) ↔ InClosure (width_of s) (functional_part (theory_of s)) part a

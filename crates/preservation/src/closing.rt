@@ -2,7 +2,7 @@ ghost use Rattle.std.specs.Prelude.{◌≡◌, ◌⊎◌, All, IfSome};
 ghost use Rattle.attr_sets.specs.Attributes.{IsSubset};
 ghost use Rattle.attr_sets.specs.Sets.{attributes};
 ghost use Rattle.dep_model.specs.Dependencies.{ObeysFd};
-ghost use Rattle.dep_model.specs.Schemas.{width_of, deps_of, theory_of, universe_of};
+ghost use Rattle.dep_model.specs.Theories.{width_of, deps_of, theory_of, universe_of};
 ghost use Rattle.dep_model.specs.Tuples.{Relation};
 ghost use Rattle.fd_closure.specs.Counting.{FitsList};
 ghost use Rattle.preservation.specs.SchemeClosures.{IsSchemeClosure, schemes_of_closures, plan_of_closures};
@@ -11,7 +11,7 @@ ghost use Rattle.preservation.specs.FunctionallyClosed.{TellsKeptClosure, IsFunc
 
 use crate::scheme_closure::{SchemeClosure, closure_covering};
 use attr_sets::AttrSet;
-use dep_model::Schema;
+use dep_model::Theory;
 use fd_closure::Counters;
 
 /// A left side, and all that follows from it by the dependencies inside the schemes of a plan.
@@ -23,33 +23,33 @@ pub struct Closed {
 
 /// The same as `kept_closure`, which is not asked again for the left side of which all was found last.
 pub fn closure_after(
-    schema: &Schema,
+    theory: &Theory,
     counters: &mut Counters,
     closures: &mut [SchemeClosure],
     last: Option<Closed>,
     from: AttrSet,
     wanted: AttrSet,
 ) -> AttrSet
-    requires fits { FitsList counters.old (deps_of schema.now) }
-    requires known { All (IsSchemeClosure (width_of schema.now) (theory_of schema.now)) closures.old }
+    requires fits { FitsList counters.old (deps_of theory.now) }
+    requires known { All (IsSchemeClosure (width_of theory.now) (theory_of theory.now)) closures.old }
     requires last { IfSome last
-        (TellsKeptClosure (width_of schema.now) (theory_of schema.now) (plan_of_closures closures.old)) }
-    requires from { IsSubset (attributes from) (universe_of schema.now) }
-    ensures follows { FollowsInside (width_of schema.now) (theory_of schema.now) (plan_of_closures closures.old)
+        (TellsKeptClosure (width_of theory.now) (theory_of theory.now) (plan_of_closures closures.old)) }
+    requires from { IsSubset (attributes from) (universe_of theory.now) }
+    ensures follows { FollowsInside (width_of theory.now) (theory_of theory.now) (plan_of_closures closures.old)
         (attributes from) (attributes result) }
     ensures found { IsSubset (attributes wanted) (attributes result)
-        ⊎ IsKeptClosure (width_of schema.now) (theory_of schema.now) (plan_of_closures closures.old)
+        ⊎ IsKeptClosure (width_of theory.now) (theory_of theory.now) (plan_of_closures closures.old)
         (attributes from) (attributes result) }
-    ensures known { All (IsSchemeClosure (width_of schema.now) (theory_of schema.now)) closures.new }
+    ensures known { All (IsSchemeClosure (width_of theory.now) (theory_of theory.now)) closures.new }
     ensures schemes { schemes_of_closures closures.new ≡ schemes_of_closures closures.old }
-    ensures fits { FitsList counters.new (deps_of schema.now) }
+    ensures fits { FitsList counters.new (deps_of theory.now) }
 {
     if let Some(previous) = last {
         if previous.from == from {
             return previous.closed;
         }
     }
-    kept_closure(schema, counters, closures, from, wanted)
+    kept_closure(theory, counters, closures, from, wanted)
 }
 
 /// The attributes that follow from a set by the functional dependencies inside the schemes of a plan,
@@ -58,27 +58,27 @@ pub fn closure_after(
 ///
 /// Two tuples that agree exactly on all of them obey all these dependencies.
 pub fn kept_closure(
-    schema: &Schema,
+    theory: &Theory,
     counters: &mut Counters,
     closures: &mut [SchemeClosure],
     from: AttrSet,
     wanted: AttrSet,
 ) -> AttrSet
-    requires fits { FitsList counters.old (deps_of schema.now) }
-    requires known { All (IsSchemeClosure (width_of schema.now) (theory_of schema.now)) closures.old }
-    requires from { IsSubset (attributes from) (universe_of schema.now) }
-    ensures follows { FollowsInside (width_of schema.now) (theory_of schema.now) (plan_of_closures closures.old)
+    requires fits { FitsList counters.old (deps_of theory.now) }
+    requires known { All (IsSchemeClosure (width_of theory.now) (theory_of theory.now)) closures.old }
+    requires from { IsSubset (attributes from) (universe_of theory.now) }
+    ensures follows { FollowsInside (width_of theory.now) (theory_of theory.now) (plan_of_closures closures.old)
         (attributes from) (attributes result) }
     ensures found { IsSubset (attributes wanted) (attributes result)
-        ⊎ IsKeptClosure (width_of schema.now) (theory_of schema.now) (plan_of_closures closures.old)
+        ⊎ IsKeptClosure (width_of theory.now) (theory_of theory.now) (plan_of_closures closures.old)
         (attributes from) (attributes result) }
-    ensures known { All (IsSchemeClosure (width_of schema.now) (theory_of schema.now)) closures.new }
+    ensures known { All (IsSchemeClosure (width_of theory.now) (theory_of theory.now)) closures.new }
     ensures schemes { schemes_of_closures closures.new ≡ schemes_of_closures closures.old }
-    ensures fits { FitsList counters.new (deps_of schema.now) }
+    ensures fits { FitsList counters.new (deps_of theory.now) }
 {
     let mut closed = from;
     loop {
-        let more = with_schemes(schema, counters, closures, closed);
+        let more = with_schemes(theory, counters, closures, closed);
         if more == closed {
             return closed;
         }
@@ -91,30 +91,30 @@ pub fn kept_closure(
 
 // The set with what each scheme adds to it, where each is tried once.
 fn with_schemes(
-    schema: &Schema,
+    theory: &Theory,
     counters: &mut Counters,
     closures: &mut [SchemeClosure],
     closed: AttrSet,
 ) -> AttrSet
-    requires fits { FitsList counters.old (deps_of schema.now) }
-    requires known { All (IsSchemeClosure (width_of schema.now) (theory_of schema.now)) closures.old }
-    requires closed { IsSubset (attributes closed) (universe_of schema.now) }
+    requires fits { FitsList counters.old (deps_of theory.now) }
+    requires known { All (IsSchemeClosure (width_of theory.now) (theory_of theory.now)) closures.old }
+    requires closed { IsSubset (attributes closed) (universe_of theory.now) }
     ensures grows { IsSubset (attributes closed) (attributes result) }
-    ensures within { IsSubset (attributes result) (universe_of schema.now) }
+    ensures within { IsSubset (attributes result) (universe_of theory.now) }
     ensures kept { (r : Relation)
-        → ObeysInside (width_of schema.now) (theory_of schema.now) (plan_of_closures closures.old) r
+        → ObeysInside (width_of theory.now) (theory_of theory.now) (plan_of_closures closures.old) r
         → ObeysFd (attributes closed) (attributes result) r }
     ensures functionally_closed { IsSubset (attributes result) (attributes closed)
-        → All (λ scheme. IsFunctionallyClosedIn (width_of schema.now) (theory_of schema.now)
+        → All (λ scheme. IsFunctionallyClosedIn (width_of theory.now) (theory_of theory.now)
         (attributes scheme)
         (attributes closed) (attributes closed)) (schemes_of_closures closures.old) }
-    ensures known { All (IsSchemeClosure (width_of schema.now) (theory_of schema.now)) closures.new }
+    ensures known { All (IsSchemeClosure (width_of theory.now) (theory_of theory.now)) closures.new }
     ensures schemes { schemes_of_closures closures.new ≡ schemes_of_closures closures.old }
-    ensures fits { FitsList counters.new (deps_of schema.now) }
+    ensures fits { FitsList counters.new (deps_of theory.now) }
 {
     let mut more = closed;
     for i in 0..closures.len() {
-        let closure = closure_covering(schema, counters, closures[i], more);
+        let closure = closure_covering(theory, counters, closures[i], more);
         more = more.union(closure.closed);
         closures[i] = closure;
     }

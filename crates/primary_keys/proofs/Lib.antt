@@ -1,3 +1,1 @@
-pub mod NarrowedLemmas
 pub mod PrimaryLemmas
-mod LoopLemmas

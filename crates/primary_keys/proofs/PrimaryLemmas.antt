@@ -5,17 +5,19 @@ use Rattle.std.specs.Prelude.{◌↔◌}
 use Rattle.std.proofs.lemmas.Bool.{cases_Bool, cases_eq, true≢false}
 use Rattle.std.proofs.lemmas.Bool.Decides.{nat_tests}
 use Rattle.attr_sets.specs.Attributes.{Attributes, below, difference, IsSubset, Disjoint}
+use Rattle.attr_sets.specs.declared.narrowing.Direction.TheVariants.{Descending}
+use Rattle.attr_sets.specs.Narrowing.{left_beside, IsNarrowed}
 use Rattle.attr_sets.proofs.AttributesLemmas.{same_from_within}
+use Rattle.attr_sets.proofs.NarrowingLemmas.{narrowed_passes, narrowed_minimal, one_narrowed}
 use Rattle.dep_model.specs.Dependencies.{Dependency}
-use Rattle.dep_model.specs.Keys.{IsSuperkey, IsKey, IsGreedyKey, left_without}
+use Rattle.dep_model.specs.Keys.{IsSuperkey, IsKey, IsGreedyKey}
 use Rattle.dep_model.proofs.KeyLemmas.{superkey_more, scheme_superkey}
-use Rattle.primary_keys.specs.PrimaryKeys.{IsNarrowed, IsPrimaryKey}
-use Rattle.primary_keys.proofs.NarrowedLemmas.{narrowed_superkey, narrowed_minimal, one_narrowed}
+use Rattle.primary_keys.specs.PrimaryKeys.{IsPrimaryKey}
 
 module _ (n : ℕ) (ds : List Dependency) (nullable scheme k : Attributes)
     (low : IsSubset scheme (below n)) (primary : IsPrimaryKey n ds nullable scheme k) where
-  itself : IsSubset scheme scheme
-  itself j m = m
+  abbrev Passes : Attributes → Type 0
+  Passes = IsSuperkey n ds scheme
 
   -- an attribute that is never missing is tried among the others
   other_one : (a : ℕ) → scheme a ≡ true → nullable a ≡ false → difference scheme nullable a ≡ true
@@ -23,18 +25,17 @@ module _ (n : ℕ) (ds : List Dependency) (nullable scheme k : Attributes)
 
   pub primary_is_key : IsKey n ds scheme k
   primary_is_key = record {
-    superkey = narrowed_superkey n ds scheme (difference scheme nullable) primary.rest k primary.others_next
-        primary.nullable_first.within low
-        (narrowed_superkey n ds scheme nullable scheme primary.rest primary.nullable_first itself low
-        (scheme_superkey n ds scheme));
+    superkey = narrowed_passes Descending Passes (difference scheme nullable) primary.rest k primary.others_next n
+        (λ (j : ℕ) m. low j (primary.nullable_first.within j m))
+        (narrowed_passes Descending Passes nullable scheme primary.rest primary.nullable_first n low (scheme_superkey n ds scheme));
     minimal = λ j within superkey a member. elim (cases_Bool (nullable a)) [
       | inl missing ↦
-          narrowed_minimal n ds scheme nullable scheme primary.rest primary.nullable_first itself j
+          narrowed_minimal Descending Passes nullable scheme primary.rest primary.nullable_first (superkey_more n ds scheme) j
           (λ (i : ℕ) m. primary.others_next.within i (within i m)) superkey a
           (primary.others_next.within a member) missing
       | inr never ↦
-          narrowed_minimal n ds scheme (difference scheme nullable) primary.rest k primary.others_next
-          primary.nullable_first.within j within superkey a member
+          narrowed_minimal Descending Passes (difference scheme nullable) primary.rest k primary.others_next
+          (λ (x y : Attributes) inside low_y. superkey_more n ds scheme x y inside (λ (i : ℕ) m. primary.nullable_first.within i (low_y i m))) j within superkey a member
           (other_one a (primary.nullable_first.within a (primary.others_next.within a member)) never)
     ];
   }
@@ -48,13 +49,13 @@ module _ (n : ℕ) (ds : List Dependency) (nullable scheme k : Attributes)
         let rest = primary.rest in
         let first = primary.nullable_first in
         let in_rest : rest a ≡ true = primary.others_next.within a member in
-        let beside : IsSubset key (left_without scheme rest a) = λ (i : ℕ) m. elim (cases_eq i a) [
+        let beside : IsSubset key (left_beside Descending scheme rest a) = λ (i : ℕ) m. elim (cases_eq i a) [
           | inl same ↦ absurd (true≢false (sym missing ∙ sym (ap nullable same) ∙ never i m))
           | inr other ↦
               let in_scheme = is_key.superkey.within.0 i m in
               grind (arith, nat_tests, other, in_scheme, first.stay i in_scheme (never i m))
         ] in
-        let more = superkey_more n ds scheme key (left_without scheme rest a) beside
+        let more = superkey_more n ds scheme key (left_beside Descending scheme rest a) beside
         (λ (i : ℕ) h. grind (arith, nat_tests, h, first.within i)) is_key.superkey in
         absurd (true≢false (sym in_rest ∙ (first.left_out a (first.within a in_rest) missing).1 more))
   ]
@@ -68,8 +69,9 @@ module _ (n : ℕ) (ds : List Dependency) (nullable scheme k : Attributes)
   pub primary_greedy : Disjoint scheme nullable → IsGreedyKey n ds scheme k
   primary_greedy never = record {
     within = λ j m. primary.nullable_first.within j (primary.others_next.within j m);
-    left_out = λ a member.
-        subst (λ (x : Attributes). (k a ≡ false) ↔ IsSuperkey n ds scheme (left_without x k a)) whole
+    stay = λ a member not_tried. absurd (true≢false (sym member ∙ not_tried));
+    left_out = λ a member _.
+        subst (λ (x : Attributes). (k a ≡ false) ↔ IsSuperkey n ds scheme (left_beside Descending x k a)) whole
         (primary.others_next.left_out a (primary.nullable_first.stay a member (never a member))
         (other_one a member (never a member)));
   }
@@ -82,11 +84,12 @@ pub one_primary_below : (bound n : ℕ) (ds : List Dependency) (nullable scheme 
     → IsSubset scheme (below bound) → IsPrimaryKey n ds nullable scheme one
     → IsPrimaryKey n ds nullable scheme other → one ≡ other
 one_primary_below bound n ds nullable scheme one other low first second =
-    let rests : first.rest ≡ second.rest = one_narrowed n ds scheme nullable scheme first.rest second.rest
+    let Passes : Attributes → Type 0 = IsSuperkey n ds scheme in
+    let others = difference scheme nullable in
+    let rests : first.rest ≡ second.rest = one_narrowed Descending Passes nullable scheme first.rest second.rest
     first.nullable_first second.nullable_first bound low in
-    one_narrowed n ds scheme (difference scheme nullable) first.rest one other first.others_next
-    (subst (λ (x : Attributes). IsNarrowed n ds scheme (difference scheme nullable) x other) (sym rests)
-    second.others_next)
+    one_narrowed Descending Passes others first.rest one other first.others_next
+    (subst (λ (x : Attributes). IsNarrowed Descending Passes others x other) (sym rests) second.others_next)
     bound (λ (a : ℕ) m. low a (first.nullable_first.within a m))
 
 pub one_primary : (n : ℕ) (ds : List Dependency) (nullable scheme one other : Attributes)

@@ -3,8 +3,8 @@ use Rattle.std.proofs.Common.{◌≡◌, ◌≤◌, inl, inr, ⊎_elim, ◌+◌,
 use Rattle.std.proofs.lemmas.Bool.{cases_lt}
 use Rattle.std.proofs.lemmas.List.{append-nil, length_push, nil_from_length}
 use Rattle.std.proofs.lemmas.Option.{slice_get-get_or}
-use Rattle.dep_model.specs.declared.schema.Schema.{Schema}
-use Rattle.dep_model.specs.Schemas.{names_of, naming_of}
+use Rattle.schema_model.specs.Schemas.{Schema}
+use Rattle.schema_model.specs.Schemas.{names_of, naming_of}
 use Rattle.derivation.specs.Trees.{Tree}
 use Rattle.lexer.specs.Modes as mode
 use Rattle.lexer.specs.Lines.{line_texts, without_mark}
@@ -22,14 +22,14 @@ use Rattle.proof_grammar.specs.Spelling.{AreNodes, SpellsWithin, uses}
 use Rattle.proof_grammar.specs.Texts.{in_line, read_as, line_kind, read_one, read_certificate_lines, read_proof}
 use Rattle.proof_grammar.specs.Wrongs.{AreRead}
 use Rattle.proof_grammar.proofs.CheckedLemmas.{read_proof_checked}
-use Rattle.proof_grammar.proofs.CountedLines.{Counts, kind_counts, line_of_attributes}
+use Rattle.proof_grammar.proofs.CountedLines.{Counts, kind_counts, line_of_attributes, one_line_more}
 use Rattle.proof_grammar.proofs.DepthLemmas.{uses_first, nodes_size, no_deeper}
 use Rattle.proof_grammar.proofs.EnteredLaws.{premises_early}
 use Rattle.proof_grammar.proofs.EnteredRefusals.{Enters, enters}
 use Rattle.proof_grammar.proofs.FinishedRefusals.{Finishes, finishes, one_end}
 use Rattle.proof_grammar.proofs.LineLaws.{line_there}
 use Rattle.proof_grammar.proofs.LineRefusals as refusals
-use Rattle.proof_grammar.proofs.ReadLines.{without_more_yes, read_from, HasReadLines, at_start, line_passed_over, counts_here, one_more}
+use Rattle.proof_grammar.proofs.ReadLines.{without_more_yes, read_from, HasReadLines, at_start, line_passed_over, one_more}
 use Rattle.proof_grammar.proofs.WalkedLines.{read_lines_walked}
 
 -- no line uses itself or a later one
@@ -135,7 +135,7 @@ line_fits Certificate s text number here texts before fresh lines trees state cu
       after = texts;
       cut = cut;
       number = count;
-      counts = counts_here s text before fresh lines trees state here afterwards counts;
+      counts = one_line_more (naming_of s) before fresh here afterwards.counts counts;
     }
 
     by_cases : (r : Result Line SchemaRefusal)

@@ -7,7 +7,7 @@ use Rattle.std.proofs.lemmas.Bool.{cond_both}
 use Rattle.std.proofs.lemmas.Bool.Decides.{nat_tests}
 use Rattle.std.proofs.lemmas.List.{length-set}
 use Rattle.std.proofs.lemmas.Result.{IfOk-weaker}
-use Rattle.dep_model.specs.declared.schema.Schema.{Schema}
+use Rattle.schema_model.specs.Schemas.{Schema, theory_in}
 use Rattle.dep_model.specs.Dependencies.{Dependency, left_of, right_of}
 use Rattle.derivation.specs.declared.fault.FaultKind.{FaultKind}
 use Rattle.derivation.specs.declared.fault.FaultKind.TheVariants.{NoSuchGiven}
@@ -27,7 +27,7 @@ use Rattle.proof_grammar.specs.declared.line_kind.LineKind.TheVariants.{Blank, O
 use Rattle.lexer.specs.Modes as mode
 use Rattle.lexer.specs.Lines.{line_texts, without_mark}
 use Rattle.lexer.specs.Tokens.{lex}
-use Rattle.dep_model.specs.Schemas.{names_of, naming_of}
+use Rattle.schema_model.specs.Schemas.{names_of, naming_of}
 use Rattle.proof_grammar.specs.Texts.{in_line, read_as, line_kind, read_one, at_line, read_certificate_lines, read_proof}
 use Rattle.proof_grammar.specs.Checked.{IsChecked}
 use Rattle.proof_grammar.specs.ValidStates.{ProvesItsConclusion, IfOpen, AllStand, open_nodes, all_nodes, IsCheckerState}
@@ -61,7 +61,7 @@ all_nodes-push (x ∷ os) o = omega (arith, all_nodes-push os o)
 pub record IsPrepared (s : Schema) (before : List (Option Opened)) (p : Prepared) : Type 0 where
   pub stand : AllStand s p.unused
   pub same_length : length p.unused ≡ length before
-  pub proves : (t : Tree) (d : Dependency) → p.outcome ≡ Ok (t, d) → Proves s t d
+  pub proves : (t : Tree) (d : Dependency) → p.outcome ≡ Ok (t, d) → Proves (theory_in s) t d
   pub levels : (t : Tree) (d : Dependency) → p.outcome ≡ Ok (t, d) → depth t ≡ p.levels
   pub counted : (t : Tree) (d : Dependency) → p.outcome ≡ Ok (t, d) → nodes t + all_nodes p.unused ≡ all_nodes before + 1
 
@@ -73,12 +73,12 @@ with_tree-ok t u (Err why) d h = cc
 
 -- a node whose tree and rule are known
 known_node : (s : Schema) (before after : List (Option Opened)) (levels : ℕ) (t : Tree) (r : Result Dependency FaultKind) → AllStand s after → length after ≡ length before
-    → ((d : Dependency) → r ≡ Ok d → Proves s t d) → depth t ≡ levels → nodes t + all_nodes after ≡ all_nodes before + 1
+    → ((d : Dependency) → r ≡ Ok d → Proves (theory_in s) t d) → depth t ≡ levels → nodes t + all_nodes after ≡ all_nodes before + 1
     → IsPrepared s before (record { levels = levels; outcome = with_tree t r; unused = after })
 known_node s before after levels t r stand same_length proves deep count = record {
   stand = stand;
   same_length = same_length;
-  proves = λ u d h. let w = with_tree-ok t u r d h in subst (λ (x : Tree). Proves s x d) w.0 (proves d w.1);
+  proves = λ u d h. let w = with_tree-ok t u r d h in subst (λ (x : Tree). Proves (theory_in s) x d) w.0 (proves d w.1);
   levels = λ u d h. let w = with_tree-ok t u r d h in subst (λ (x : Tree). depth x ≡ levels) w.0 deep;
   counted = λ u d h. let w = with_tree-ok t u r d h in subst (λ (x : Tree). nodes x + all_nodes after ≡ all_nodes before + 1) w.0 count;
 }
@@ -89,7 +89,7 @@ step_prepared : (s : Schema) (rule : Step) (os : List (Option Opened)) (q : ℕ)
 step_prepared s rule os q None e all = tt
 step_prepared s rule os q (Some o) e all =
     let stands = AllStand-get s os (q - 1) (Some o) all e in
-    known_node s os (close_line os q) (o.levels + 1) (step rule o.tree) (step_conclusion s rule o.conclusion)
+    known_node s os (close_line os q) (o.levels + 1) (step rule o.tree) (step_conclusion (theory_in s) rule o.conclusion)
     (AllStand-close s os (q - 1) all) (length-set os (q - 1) None)
     (λ d given_d. (o.conclusion, stands.proves, given_d))
     (omega (arith, stands.levels)) (omega (arith, all_nodes-close os (q - 1) (Some o) e))
@@ -115,7 +115,7 @@ all_prepared : (s : Schema) (os : List (Option Opened)) (stated : Dependency) (b
     → IfOk (prepare_line s os stated b) (IsPrepared s os)
 unfolding prepare_line
 all_prepared s os stated (by_given k) all =
-    cond_both (k == 0) (Err NoSuchGiven) (with_tree (leaf (given (k - 1))) (leaf_conclusion s (given (k - 1))))
+    cond_both (k == 0) (Err NoSuchGiven) (with_tree (leaf (given (k - 1))) (leaf_conclusion (theory_in s) (given (k - 1))))
     (λ r. IsPrepared s os (record { levels = 1; outcome = r; unused = os }))
     (λ none. record {
       stand = all;
@@ -124,14 +124,14 @@ all_prepared s os stated (by_given k) all =
       levels = λ u d h. cc;
       counted = λ u d h. cc;
     })
-    (λ not_empty. known_node s os os 1 (leaf (given (k - 1))) (leaf_conclusion s (given (k - 1))) all refl
+    (λ not_empty. known_node s os os 1 (leaf (given (k - 1))) (leaf_conclusion (theory_in s) (given (k - 1))) all refl
     (λ d h. h) refl (omega arith))
 all_prepared s os stated by_reflexivity all =
     known_node s os os 1 (leaf (reflexivity (left_of stated) (right_of stated)))
-    (leaf_conclusion s (reflexivity (left_of stated) (right_of stated))) all refl (λ d h. h) refl (omega arith)
+    (leaf_conclusion (theory_in s) (reflexivity (left_of stated) (right_of stated))) all refl (λ d h. h) refl (omega arith)
 all_prepared s os stated by_mreflexivity all =
     known_node s os os 1 (leaf (mreflexivity (left_of stated) (right_of stated)))
-    (leaf_conclusion s (mreflexivity (left_of stated) (right_of stated))) all refl (λ d h. h) refl (omega arith)
+    (leaf_conclusion (theory_in s) (mreflexivity (left_of stated) (right_of stated))) all refl (λ d h. h) refl (omega arith)
 all_prepared s os stated (by_step rule q) all =
     cond_both (is_earlier os q) (step_node s rule (open_at os q) (close_line os q)) (Err no_such_line)
     (λ r. IfOk r (IsPrepared s os))
@@ -279,12 +279,12 @@ read_proof_checked s text t h =
     (record { stand = tt {0}; count = refl; lines_fit = omega arith }))
 
 -- the last line of a checker state proves what it concludes
-pub root_proves : (s : Schema) (state : CheckerStateValue) (t : Tree) (d : Dependency) → IsCheckerState s state → root_conclusion state.unused ≡ Some (t, d) → Proves s t d
+pub root_proves : (s : Schema) (state : CheckerStateValue) (t : Tree) (d : Dependency) → IsCheckerState s state → root_conclusion state.unused ≡ Some (t, d) → Proves (theory_in s) t d
 root_proves s state t d is h = by_cases (root state.unused) refl h
   where
-    by_cases : (o : Option Opened) → root state.unused ≡ o → option_map concluded_by o ≡ Some (t, d) → Proves s t d
+    by_cases : (o : Option Opened) → root state.unused ≡ o → option_map concluded_by o ≡ Some (t, d) → Proves (theory_in s) t d
     by_cases None r e = cc
     by_cases (Some u) r e =
         let stands = AllStand-get s state.unused (length state.unused - 1) (Some u) is.stand r in
         let same : concluded_by u ≡ (t, d) = cc in
-        subst (λ (x : Tree × Dependency). Proves s x.0 x.1) same stands.proves
+        subst (λ (x : Tree × Dependency). Proves (theory_in s) x.0 x.1) same stands.proves

@@ -1,15 +1,16 @@
--- Which lines of a text count, line by line; and the sets of a line are of attributes.
-use Rattle.std.proofs.Common.{◌≡◌, inl, inr, ℕ, Bool, true, false, ◌&&◌, not, List, [], ◌∷◌, length, Option, Some, None, refl, sym, ◌∙◌, ap, subst, arith}
+-- Which lines of a text count, line by line, and after some of them; and the sets of a line are of attributes.
+use Rattle.std.proofs.Common.{◌≡◌, inl, inr, ℕ, Bool, true, false, ◌&&◌, not, List, [], ◌∷◌, ◌++◌, length, Option, Some, None, refl, sym, ◌∙◌, ap, subst, arith, append_assoc}
 use Rattle.std.specs.Prelude.{filter}
+use Rattle.std.proofs.lemmas.List.{append-nil}
 use Rattle.std.proofs.lemmas.Bool.{cond_both}
 use Rattle.std.proofs.lemmas.Bool.Decides.{nat_tests}
 use Rattle.attr_sets.specs.Attributes.{Attributes, below}
-use Rattle.dep_model.specs.declared.schema.Schema.{Schema}
+use Rattle.schema_model.specs.Schemas.{Schema}
 use Rattle.dep_model.specs.Dependencies.{left_of, right_of}
-use Rattle.dep_model.specs.Schemas.{names_of, naming_of}
+use Rattle.schema_model.specs.Schemas.{names_of, naming_of}
 use Rattle.derivation.specs.Trees.{augmentation, complementation, maugmentation, replication}
 use Rattle.derivation.proofs.WithinLemmas.{OfAttributes}
-use Rattle.dep_model.specs.declared.naming.Naming.{Naming}
+use Rattle.schema_model.specs.declared.naming.Naming.{Naming}
 use Rattle.lexer.specs.Modes as mode
 use Rattle.lexer.specs.declared.token.LexError.{LexError}
 use Rattle.lexer.specs.Tokens.{Mark, lex}
@@ -57,6 +58,42 @@ kind_counts naming fresh text k e =
         cond_both (is_yes m.kind m.word && is_blank_from ms stop) Opening Certificate (λ j. Counts naming j true text)
         (λ says texts. rw (marks, marks, ends, says) refl) (λ says texts. rw (marks, marks, ends, says) refl)
     by_cases false (m ∷ ms) stop marks ends = λ texts. rw marks refl
+
+-- ---- after some lines
+pub nothing_counts : (naming : Naming) (fresh : Bool) → lines_to_read naming fresh [] ≡ []
+nothing_counts naming true = refl
+nothing_counts naming false = refl
+
+-- after some lines of a text those that count are those before, and what is read from there on
+abbrev pub CountOn : Naming → List (List ℕ) → Bool → Type 0
+CountOn naming before fresh =
+    (more : List (List ℕ)) → certificate_lines_of naming (before ++ more) ≡ certificate_lines_of naming before ++ lines_to_read naming fresh more
+
+module _ (naming : Naming) (before : List (List ℕ)) (fresh : Bool) (here : List ℕ) (so_far : CountOn naming before fresh) where
+  -- a line that does not count
+  module _ (next : Bool) (skips : (more : List (List ℕ)) → lines_to_read naming fresh (here ∷ more) ≡ lines_to_read naming next more) where
+    pub same_lines : certificate_lines_of naming (before ++ here ∷ []) ≡ certificate_lines_of naming before
+    same_lines =
+        so_far (here ∷ []) ∙ ap (λ (ls : List (List ℕ)). certificate_lines_of naming before ++ ls) (skips [] ∙ nothing_counts naming next)
+        ∙ append-nil (certificate_lines_of naming before)
+
+    pub count_past : CountOn naming (before ++ here ∷ []) next
+    count_past more =
+        ap (certificate_lines_of naming) (append_assoc before (here ∷ []) more) ∙ so_far (here ∷ more)
+        ∙ ap (λ (ls : List (List ℕ)). certificate_lines_of naming before ++ ls) (skips more)
+        ∙ ap (λ (ls : List (List ℕ)). ls ++ lines_to_read naming next more) (sym same_lines)
+
+  -- one that counts stands after those before
+  module _ (counts : Counts naming Certificate fresh here) where
+    pub one_line_more : certificate_lines_of naming (before ++ here ∷ []) ≡ certificate_lines_of naming before ++ here ∷ []
+    one_line_more = so_far (here ∷ []) ∙ ap (λ (ls : List (List ℕ)). certificate_lines_of naming before ++ ls) (counts [])
+
+    pub count_after : CountOn naming (before ++ here ∷ []) false
+    count_after more =
+        ap (certificate_lines_of naming) (append_assoc before (here ∷ []) more) ∙ so_far (here ∷ more)
+        ∙ ap (λ (ls : List (List ℕ)). certificate_lines_of naming before ++ ls) (counts more)
+        ∙ sym (append_assoc (certificate_lines_of naming before) (here ∷ []) (lines_to_read naming false more))
+        ∙ ap (λ (ls : List (List ℕ)). ls ++ lines_to_read naming false more) (sym one_line_more)
 
 -- ---- the sets of a line
 of_attributes : (s : Schema) (ms : List Mark) (x : Attributes) → IsSide format.Plain (names_of s) ms x

@@ -6,9 +6,9 @@ use Rattle.std.proofs.lemmas.Bool.{true≢false}
 use Rattle.std.proofs.lemmas.Bool.Decides.{nat_tests}
 use Rattle.std.proofs.lemmas.List.{length_push}
 use Rattle.attr_sets.specs.Attributes.{Attributes, IsSubset, below}
-use Rattle.dep_model.specs.declared.schema.Schema.{Schema}
+use Rattle.schema_model.specs.Schemas.{Schema, theory_in}
 use Rattle.dep_model.specs.Dependencies.{Dependency, left_of, right_of}
-use Rattle.dep_model.specs.Schemas.{universe_of, width_of}
+use Rattle.schema_model.specs.Schemas.{universe_of, width_of}
 use Rattle.derivation.specs.declared.fault.FaultKind.{FaultKind}
 use Rattle.derivation.specs.declared.measures.TheConstants.{MOST_NODES, MOST_LEVELS}
 use Rattle.derivation.specs.Trees.{Tree, depth}
@@ -132,14 +132,14 @@ Follows-push s at lines ts state l p (Ok o) follows own number once is checks_li
     let levels = is.levels t gives.0 in
     let low : (x : Attributes) → IsSubset x (universe_of s) → OfAttributes x = λ x within k h.
     let inside : below (width_of s) k ≡ true = within k h in grind (arith, nat_tests, inside, s.valid.names_within_limit) in
-    let within = conclusion_within s t o.conclusion gives.2 gives.1 in
+    let within = conclusion_within (theory_in s) t o.conclusion gives.2 gives.1 in
     let same = same_there l.stated o.conclusion own.left own.right (low (left_of o.conclusion) within.0)
     (low (right_of o.conclusion) within.1) checks_limits.same in
     let later : (n : ℕ) → length ts < n → used n ≡ 0 = λ n h.
     omega (arith, follows.fresh n (omega (arith, h)), premises_early ts l l.body t n gives.0 h) in (
       t,
       record {
-        node = record { number = number; tree = gives.0; states = subst (Proves s t) (sym same) gives.1 };
+        node = record { number = number; tree = gives.0; states = subst (Proves (theory_in s) t) (sym same) gives.1 };
         lines_fit = checks_limits.lines_fit;
         levels_fit = omega (arith, checks_limits.levels_fit, levels);
         follows = record {
@@ -206,8 +206,8 @@ nothing_wrong s lines ts l t (unsound fault) node within_limit flat once wrong =
     no_fault s ts l l.body t l.stated fault.kind node.tree node.states wrong.1
 nothing_wrong s lines ts l t (states_other stated concluded) node within_limit flat once wrong =
     let same = tree_of_line ts l l.body wrong.1.tree t wrong.1.is node.tree in
-    wrong.1.other (Proves-one s t l.stated concluded node.states
-    (subst (λ (u : Tree). Proves s u concluded) same wrong.1.proves))
+    wrong.1.other (Proves-one (theory_in s) t l.stated concluded node.states
+    (subst (λ (u : Tree). Proves (theory_in s) u concluded) same wrong.1.proves))
 nothing_wrong s lines ts l t _ node within_limit flat once wrong = wrong
 
 -- a node within the limits is entered

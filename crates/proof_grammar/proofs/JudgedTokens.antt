@@ -7,7 +7,7 @@ use Rattle.std.proofs.lemmas.Slice.Eq.{bytes_eq-Decides}
 use Rattle.lexer.specs.declared.token.LexError.{LexError}
 use Rattle.lexer.specs.declared.token.TokenKind.{TokenKind}
 use Rattle.lexer.specs.declared.token.TokenKind.TheVariants as token
-use Rattle.lexer.specs.Tokens.{Mark}
+use Rattle.lexer.specs.Tokens.{Mark, is_colon}
 use Rattle.schema_grammar.specs.declared.refusal.SchemaRefusal.{SchemaRefusal}
 use Rattle.schema_grammar.specs.declared.refusal.What.{What}
 use Rattle.schema_grammar.specs.declared.refusal.What.TheVariants as what
@@ -18,7 +18,7 @@ use Rattle.proof_grammar.specs.declared.rule_name.RuleName.{RuleName}
 use Rattle.proof_grammar.specs.Lines.{Line}
 use Rattle.proof_grammar.specs.LineDiagnostics.{TokenForm, token_form, word_form, a_with, a_rule, a_word}
 use Rattle.proof_grammar.specs.Readers.{colon, with_word, rule_name}
-use Rattle.proof_grammar.specs.Tokens.{is_colon, is_with, rule_named, rule_word}
+use Rattle.proof_grammar.specs.Tokens.{is_with, rule_named, rule_word}
 use Rattle.proof_grammar.proofs.FormShapes.{Part, lhs, rhs, After, first, Shape, at_number, at_side, past, at_rule, at_with, past_arrow, past_colon, shape_of_rule, past_number, shape_after, is_last, is_final, takes_words, wanted_after, wanted_by}
 use Rattle.proof_grammar.proofs.JudgedLines.{form, IsRight, Judged, Wrong, goes_on, stuck_here, end_here, flaw_here}
 use Rattle.schema_grammar.specs.DiagnosticKinds.{DiagnosticKind}

@@ -3,7 +3,7 @@ use Rattle.std.proofs.Common.{◌≡◌, ◌<◌, ◌+◌, ◌-◌, ◌==◌, �
 use Rattle.std.specs.Prelude.{filter, nat_eq}
 use Rattle.std.proofs.lemmas.Bool.Decides.{nat_tests}
 use Rattle.std.proofs.lemmas.List.Elements.{filter-append}
-use Rattle.dep_model.specs.declared.schema.Schema.{Schema}
+use Rattle.schema_model.specs.Schemas.{Schema}
 use Rattle.derivation.specs.Trees.{Tree}
 use Rattle.proof_grammar.specs.CheckerStates.{Opened, option_flatten, is_earlier, open_at, close_line}
 use Rattle.proof_grammar.specs.Spelling.{IsTreeAt}

@@ -5,7 +5,7 @@ use Rattle.std.specs.Prelude.{max, nat_lt, nat_le}
 use Rattle.std.proofs.lemmas.Bool.{cases_lt}
 use Rattle.std.proofs.lemmas.Bool.Decides.{nat_tests}
 use Rattle.std.proofs.lemmas.List.{length-set}
-use Rattle.dep_model.specs.declared.schema.Schema.{Schema}
+use Rattle.schema_model.specs.Schemas.{Schema, theory_in}
 use Rattle.dep_model.specs.Dependencies.{Dependency, left_of, right_of}
 use Rattle.derivation.specs.declared.fault.FaultKind.{FaultKind}
 use Rattle.derivation.specs.declared.fault.FaultKind.TheVariants.{NoSuchGiven}
@@ -33,7 +33,7 @@ pub record IsOutcome (s : Schema) (used : ℕ → ℕ) (ts : List Tree) (l : Lin
   pub deep : MOST_LEVELS < p.levels → (t : Tree) × IsTreeOf ts l l.body t
   pub fails : (why : FaultKind) → p.outcome ≡ Err why → NodeFault s ts l l.body why
   pub gives : (u : Tree) (d : Dependency) → p.outcome ≡ Ok (u, d)
-      → IsTreeOf ts l l.body u × Proves s u d × TreeOfAttributes u
+      → IsTreeOf ts l l.body u × Proves (theory_in s) u d × TreeOfAttributes u
   pub slots : AreSlots s (λ n. used n + times n (premises_of l.body)) 0 ts p.unused
 
 abbrev pub Prepares : Schema → List Line → List Tree → Line → Result Prepared Diagnostic → Type 0
@@ -55,7 +55,7 @@ with_tree_err t (Err other) why h = let same : other ≡ why = cc in ap Err same
 -- a node whose tree is known
 outcome_of : (s : Schema) (used : ℕ → ℕ) (ts : List Tree) (l : Line) (levels : ℕ) (w t : Tree)
     (r : Result Dependency FaultKind) (unused : List (Option Opened)) → w ≡ t → IsTreeOf ts l l.body t
-    → levels ≡ depth t → TreeOfAttributes t → ((d : Dependency) → r ≡ Ok d → Proves s t d)
+    → levels ≡ depth t → TreeOfAttributes t → ((d : Dependency) → r ≡ Ok d → Proves (theory_in s) t d)
     → ((why : FaultKind) → r ≡ Err why → NodeFault s ts l l.body why)
     → AreSlots s (λ n. used n + times n (premises_of l.body)) 0 ts unused
     → IsOutcome s used ts l (record { levels = levels; outcome = with_tree w r; unused = unused })
@@ -65,7 +65,7 @@ outcome_of s used ts l levels w t r unused same tree deep attributes gives fails
   fails = λ why h. fails why (with_tree_err w r why h);
   gives = λ u d h.
       let both = with_tree-ok w u r d h in
-      subst (λ (v : Tree). IsTreeOf ts l l.body v × Proves s v d × TreeOfAttributes v) (sym same ∙ both.0)
+      subst (λ (v : Tree). IsTreeOf ts l l.body v × Proves (theory_in s) v d × TreeOfAttributes v) (sym same ∙ both.0)
       (tree, gives d both.1, attributes);
   slots = slots;
 }
@@ -99,7 +99,7 @@ step_prepares s lines ts os n stated rule q true (Some o) slots own earlier here
       earlier_more ts q [] slot.0 slot.1 (λ m not_empty. absurd (omega (arith, not_empty))),
       once_more used q [] slot.2.0 (λ m not_empty. absurd (omega (arith, not_empty))),
       outcome_of s used ts l (o.levels + 1) (step rule o.tree) (step rule slot.0)
-          (step_conclusion s rule o.conclusion) (close_line os q) (ap (step rule) is.tree)
+          (step_conclusion (theory_in s) rule o.conclusion) (close_line os q) (ap (step rule) is.tree)
           (record { premise = slot.0; earlier = slot.1; tree = refl }) (ap (λ k. k + 1) is.levels)
           (own, is.attributes) (λ d h. (o.conclusion, is.proves, h))
           (λ why h. record { premise = slot.0; conclusion = o.conclusion; at = slot.1; proves = is.proves; refused = h })
@@ -195,14 +195,14 @@ pair_prepares s lines ts os n stated rule q r true true (Some o) (Some w) slots 
 -- ---- a rule with none
 leaf_prepares : (s : Schema) (lines : List Line) (ts : List Tree) (os : List (Option Opened)) (l : Line) (rule : Leaf)
     → premises_of l.body ≡ [] → AreSlots s (λ m. uses m lines) 0 ts os → IsTreeOf ts l l.body (leaf rule)
-    → TreeOfAttributes (leaf rule) → ((why : FaultKind) → leaf_conclusion s rule ≡ Err why → NodeFault s ts l l.body why)
+    → TreeOfAttributes (leaf rule) → ((why : FaultKind) → leaf_conclusion (theory_in s) rule ≡ Err why → NodeFault s ts l l.body why)
     → Prepares s lines ts l
-    (Ok (record { levels = 1; outcome = with_tree (leaf rule) (leaf_conclusion s rule); unused = os }))
+    (Ok (record { levels = 1; outcome = with_tree (leaf rule) (leaf_conclusion (theory_in s) rule); unused = os }))
 leaf_prepares s lines ts os l rule none slots tree attributes fails =
     let used : ℕ → ℕ = λ m. uses m lines in (
       subst (AllEarlier ts) (sym none) (λ n not_empty. absurd (omega (arith, not_empty))),
       subst (AllOnce used) (sym none) (λ n not_empty. absurd (omega (arith, not_empty))),
-      outcome_of s used ts l 1 (leaf rule) (leaf rule) (leaf_conclusion s rule) os refl tree refl attributes
+      outcome_of s used ts l 1 (leaf rule) (leaf rule) (leaf_conclusion (theory_in s) rule) os refl tree refl attributes
           (λ d h. h) fails (slots_same s used (λ m. used m + times m (premises_of l.body)) 0 ts os
           (λ m h. omega (arith, ap (times m) none)) slots),
     )
@@ -211,7 +211,7 @@ given_prepares : (s : Schema) (lines : List Line) (ts : List Tree) (os : List (O
     (stated : Dependency) (k : ℕ) (b : Bool) → AreSlots s (λ m. uses m lines) 0 ts os → (k == 0) ≡ b
     → Prepares s lines ts (record { number = n; stated = stated; body = by_given k }) (Ok (record {
       levels = 1;
-      outcome = cond b (Err NoSuchGiven) (with_tree (leaf (given (k - 1))) (leaf_conclusion s (given (k - 1))));
+      outcome = cond b (Err NoSuchGiven) (with_tree (leaf (given (k - 1))) (leaf_conclusion (theory_in s) (given (k - 1))));
       unused = os;
     }))
 given_prepares s lines ts os n stated k true slots is = (

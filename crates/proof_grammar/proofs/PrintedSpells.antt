@@ -1,9 +1,9 @@
 -- What is printed of a derivation spells its tree, also after the answer `yes`.
 use Rattle.std.proofs.Common.{◌≡◌, ◌≤◌, Bool, true, ◌++◌, length, arith}
 use Rattle.std.specs.Prelude.{All, codes}
-use Rattle.dep_model.specs.declared.schema.Schema.{Schema}
+use Rattle.schema_model.specs.Schemas.{Schema, theory_in}
 use Rattle.dep_model.specs.Dependencies.{Dependency}
-use Rattle.dep_model.specs.Schemas.{names_of, naming_of}
+use Rattle.schema_model.specs.Schemas.{names_of, naming_of}
 use Rattle.derivation.specs.declared.deriv.Deriv.{Deriv}
 use Rattle.derivation.specs.declared.measures.TheConstants.{MOST_NODES}
 use Rattle.derivation.specs.Conclusions.{Proves}
@@ -21,7 +21,7 @@ use Rattle.proof_grammar.proofs.PrintedNodes.{printed_nodes}
 use Rattle.proof_grammar.proofs.PrintedWithin.{tree_printable}
 
 pub printed_spells : (answered : Bool) (s : Schema) (p : Deriv) (d : Dependency)
-    → All (IsReadBack format.Plain (naming_of s)) (names_of s) → Proves s (tree_of p) d
+    → All (IsReadBack format.Plain (naming_of s)) (names_of s) → Proves (theory_in s) (tree_of p) d
     → nodes (tree_of p) ≤ MOST_NODES
     → Spells s (answer_text answered ++ canonical_certificate s (tree_of p)) (tree_of p)
 unfolding printed_names_of
@@ -36,7 +36,7 @@ printed_spells answered s p d are proves within_limit =
     }
 
 pub answered_spells : (s : Schema) (p : Deriv) (d : Dependency)
-    → All (IsReadBack format.Plain (naming_of s)) (names_of s) → Proves s (tree_of p) d
+    → All (IsReadBack format.Plain (naming_of s)) (names_of s) → Proves (theory_in s) (tree_of p) d
     → nodes (tree_of p) ≤ MOST_NODES
     → (w : Spells s (codes "yes\n" ++ canonical_certificate s (tree_of p)) (tree_of p)) × (length w.lines ≡ nodes (tree_of p))
 answered_spells s p d are proves within_limit =

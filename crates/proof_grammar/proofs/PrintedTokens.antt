@@ -10,9 +10,9 @@ use Rattle.std.proofs.lemmas.Fmt.{decimal_nonempty, length-decimal-le, digits_de
 use Rattle.std.proofs.lemmas.List.{append-nil}
 use Rattle.std.proofs.lemmas.List.Sums.{AllPass-from_list_all, list_all-from_AllPass}
 use Rattle.std.proofs.lemmas.Str.Parse.{IsNumeralModel, numerals_by_fold}
-use Rattle.dep_model.proofs.NumeralLemmas.{digits_value-model}
-use Rattle.dep_model.specs.Names.{is_bare_name, is_name_byte}
-use Rattle.dep_model.specs.declared.naming.Naming.{Naming}
+use Rattle.schema_model.proofs.NumeralLemmas.{digits_value-model}
+use Rattle.schema_model.specs.Names.{is_bare_name, is_name_byte}
+use Rattle.schema_model.specs.declared.naming.Naming.{Naming}
 use Rattle.lexer.specs.declared.piece.Piece.TheVariants as piece
 use Rattle.lexer.specs.Modes as mode
 use Rattle.lexer.specs.declared.token.TokenKind.TheVariants as token

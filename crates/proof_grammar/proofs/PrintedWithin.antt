@@ -7,10 +7,10 @@ use Rattle.std.proofs.lemmas.Option.{slice_get_within}
 use Rattle.attr_sets.specs.Attributes.{union}
 use Rattle.attr_sets.specs.Sets.{is_subset}
 use Rattle.attr_sets.proofs.AttributesLemmas.{is_subset-true}
-use Rattle.dep_model.specs.declared.schema.Schema.{Schema}
+use Rattle.schema_model.specs.Schemas.{Schema, theory_in}
 use Rattle.dep_model.specs.Dependencies.{Dependency, fd, mvd, IsWithin}
 use Rattle.dep_model.specs.Deps.{dependency_of}
-use Rattle.dep_model.specs.Schemas.{deps_of, names_of, theory_of, universe_of}
+use Rattle.schema_model.specs.Schemas.{deps_of, names_of, theory_of, universe_of}
 use Rattle.derivation.specs.declared.fault.FaultKind.TheVariants.{NoSuchGiven, NotWithin}
 use Rattle.derivation.specs.Trees.{Leaf, given, reflexivity, mreflexivity, Step, augmentation, complementation, maugmentation, replication, Tree, leaf, step, pair, nodes}
 use Rattle.derivation.specs.Table.{leaf_conclusion, step_conclusion}
@@ -29,7 +29,7 @@ printable_append names (x ∷ xs) ys first second = (first.0, printable_append n
 
 -- ---- a line
 leaf_printable : (s : Schema) (n : ℕ) (rule : Leaf) (d : Dependency) → IsWithin (universe_of s) d
-    → leaf_conclusion s rule ≡ Ok d → n < 10 ^ 9
+    → leaf_conclusion (theory_in s) rule ≡ Ok d → n < 10 ^ 9
     → IsPrintableLine (names_of s) (numbered_line n d (leaf_body rule))
 leaf_printable s n (given k) d within h within_limit =
     let inside = slice_get_within (theory_of s) k d (some_of_ok (slice_get (theory_of s) k) NoSuchGiven d h) in
@@ -45,7 +45,7 @@ leaf_printable s n (mreflexivity x y) d within h within_limit =
     record { stated = within; body = tt {0}; number = within_limit; digits_fit = tt {0} }
 
 pub step_within : (s : Schema) (rule : Step) (x d : Dependency) → StepOfAttributes rule
-    → step_conclusion s rule x ≡ Ok d → IsStepWithin (universe_of s) rule
+    → step_conclusion (theory_in s) rule x ≡ Ok d → IsStepWithin (universe_of s) rule
 step_within s (augmentation z) (fd x y) d own h =
     is_subset-true z (universe_of s) own (cond-ok (is_subset z (universe_of s)) NotWithin (fd (union x z) (union y z)) d h).0
 step_within s (augmentation z) (mvd x y) d own h = cc
@@ -59,23 +59,23 @@ step_within s (maugmentation w z) (mvd x y) d own h =
 step_within s replication x d own h = tt {0}
 
 -- ---- the lines
-pub tree_printable : (s : Schema) (t : Tree) (d : Dependency) (n : ℕ) → TreeOfAttributes t → Proves s t d
+pub tree_printable : (s : Schema) (t : Tree) (d : Dependency) (n : ℕ) → TreeOfAttributes t → Proves (theory_in s) t d
     → n + nodes t < 10 ^ 9 → ArePrintableLines (names_of s) (node_lines_after s n t)
 tree_printable s (leaf rule) d n own proves within_limit =
-    let concludes : conclusion_after s 0 (leaf rule) ≡ Ok d = conclusion_after-from s 0 (leaf rule) d proves in
+    let concludes : conclusion_after (theory_in s) 0 (leaf rule) ≡ Ok d = conclusion_after-from (theory_in s) 0 (leaf rule) d proves in
     rw concludes (
-      leaf_printable s (n + 1) rule d (conclusion_within s (leaf rule) d own proves) proves within_limit,
+      leaf_printable s (n + 1) rule d (conclusion_within (theory_in s) (leaf rule) d own proves) proves within_limit,
       tt {0},
     )
 tree_printable s (step rule t) d n own proves within_limit =
     let last : IsPrintableLine (names_of s)
     (numbered_line (n + nodes t + 1) d (by_step rule (n + nodes t))) = record {
-      stated = conclusion_within s (step rule t) d own proves;
+      stated = conclusion_within (theory_in s) (step rule t) d own proves;
       body = step_within s rule proves.0 d own.0 proves.2;
       number = omega (arith, within_limit);
       digits_fit = omega (arith, within_limit);
     } in
-    let concludes : conclusion_after s 0 (step rule t) ≡ Ok d = conclusion_after-from s 0 (step rule t) d proves in
+    let concludes : conclusion_after (theory_in s) 0 (step rule t) ≡ Ok d = conclusion_after-from (theory_in s) 0 (step rule t) d proves in
     rw concludes (printable_append (names_of s) (node_lines_after s n t) _
     (tree_printable s t proves.0 n own.1 proves.1 (omega (arith, within_limit))) (last, tt {0}))
 tree_printable s (pair rule t u) d n own proves within_limit =
@@ -84,13 +84,13 @@ tree_printable s (pair rule t u) d n own proves within_limit =
     let last : IsPrintableLine (names_of s)
     (numbered_line (n + nodes t + nodes u + 1) d (by_pair rule (n + nodes t) (n + nodes t + nodes u))) =
     record {
-      stated = conclusion_within s (pair rule t u) d own proves;
+      stated = conclusion_within (theory_in s) (pair rule t u) d own proves;
       body = tt {0};
       number = omega (arith, within_limit);
       digits_fit = (omega (arith, within_limit), omega (arith, within_limit));
     } in
     let first = tree_printable s t proves.0 n own.0 proves.2 (omega (arith, within_limit)) in
     let second = tree_printable s u proves.1 (n + nodes t) own.1 proves.3 (omega (arith, within_limit)) in
-    let concludes : conclusion_after s 0 (pair rule t u) ≡ Ok d = conclusion_after-from s 0 (pair rule t u) d proves in
+    let concludes : conclusion_after (theory_in s) 0 (pair rule t u) ≡ Ok d = conclusion_after-from (theory_in s) 0 (pair rule t u) d proves in
     rw concludes (printable_append (names_of s) (xs ++ ys) _
     (printable_append (names_of s) xs ys first second) (last, tt {0}))

@@ -1,9 +1,9 @@
 -- What is printed of a derivation within the limits is read again as its tree.
 use Rattle.std.proofs.Common.{◌≡◌, ◌≤◌, ◌++◌, Bool, Ok, arith}
 use Rattle.std.specs.Prelude.{All}
-use Rattle.dep_model.specs.declared.schema.Schema.{Schema}
+use Rattle.schema_model.specs.Schemas.{Schema, theory_in}
 use Rattle.dep_model.specs.Dependencies.{Dependency}
-use Rattle.dep_model.specs.Schemas.{names_of, naming_of}
+use Rattle.schema_model.specs.Schemas.{names_of, naming_of}
 use Rattle.derivation.specs.declared.deriv.Deriv.{Deriv}
 use Rattle.derivation.specs.declared.measures.TheConstants.{MOST_NODES, MOST_LEVELS}
 use Rattle.derivation.specs.Conclusions.{Proves}
@@ -19,7 +19,7 @@ use Rattle.proof_grammar.proofs.PrintedCertificates.{answer_text}
 use Rattle.proof_grammar.proofs.PrintedSpells.{printed_spells}
 
 pub printed_is_read : (answered : Bool) (s : Schema) (p : Deriv) (d : Dependency)
-    → All (IsReadBack format.Plain (naming_of s)) (names_of s) → Proves s (tree_of p) d
+    → All (IsReadBack format.Plain (naming_of s)) (names_of s) → Proves (theory_in s) (tree_of p) d
     → nodes (tree_of p) ≤ MOST_NODES
     → depth (tree_of p) ≤ MOST_LEVELS
     → read_proof s (answer_text answered ++ canonical_certificate s (tree_of p)) ≡ Ok (tree_of p)

@@ -6,11 +6,12 @@ use Rattle.std.specs.Result.{IfOk}
 use Rattle.std.proofs.lemmas.Bool.{cases_lt, cond_both}
 use Rattle.std.proofs.lemmas.List.{append-nil, get_or_append_left}
 use Rattle.std.proofs.lemmas.List.Elements.{All-push}
-use Rattle.dep_model.specs.declared.schema.Schema.{Schema}
-use Rattle.dep_model.specs.Schemas.{names_of, naming_of}
+use Rattle.std.proofs.lemmas.Slice.Zip.{AllZip-long, all_zipped_more}
+use Rattle.schema_model.specs.Schemas.{Schema}
+use Rattle.schema_model.specs.Schemas.{names_of, naming_of}
 use Rattle.derivation.specs.declared.measures.TheConstants.{MOST_LEVELS}
 use Rattle.derivation.specs.Trees.{Tree, depth}
-use Rattle.dep_model.specs.declared.naming.Naming.{Naming}
+use Rattle.schema_model.specs.declared.naming.Naming.{Naming}
 use Rattle.proof_grammar.specs.declared.line_kind.LineKind.TheVariants.{Certificate}
 use Rattle.proof_grammar.specs.CheckerStates.{Opened, CheckerStateValue, prepare_line, within_limits, add_line, enter_line}
 use Rattle.proof_grammar.specs.Diagnostics.{Diagnostic, LineDiagnostic, wrong_number}
@@ -21,7 +22,7 @@ use Rattle.schema_grammar.proofs.RefusalLemmas.{ok_at}
 use Rattle.proof_grammar.specs.Spelling.{uses}
 use Rattle.proof_grammar.specs.Texts.{at_line, read_certificate_lines}
 use Rattle.proof_grammar.proofs.CheckedLemmas.{bind_each}
-use Rattle.proof_grammar.proofs.CountedLines.{lines_to_read, Counts}
+use Rattle.proof_grammar.proofs.CountedLines.{lines_to_read, Counts, CountOn, same_lines, count_past, one_line_more, count_after}
 use Rattle.proof_grammar.proofs.DepthLemmas.{uses_first, nodes_size}
 use Rattle.proof_grammar.proofs.EnteredLaws.{Follows, IsEntered, used_after}
 use Rattle.proof_grammar.proofs.NodeLemmas.{AreNodes-append, uses-append}
@@ -75,25 +76,6 @@ entered_adds s at state next l h =
     (λ p found. bind_each adds (within_limits (length os) l p.levels p.outcome) _ (λ o ends. refl)))
     (λ other. tt))
 
--- ---- lines and what they mean
-pub mean_size : (naming : Naming) (names : List (List ℕ)) (texts : List (List ℕ)) (lines : List Line)
-    → MeanLines naming names texts lines → length texts ≡ length lines
-mean_size naming names [] [] mean = refl
-mean_size naming names [] (l ∷ ls) mean = absurd mean
-mean_size naming names (text ∷ texts) [] mean = absurd mean
-mean_size naming names (text ∷ texts) (l ∷ ls) mean = ap suc (mean_size naming names texts ls mean.1)
-
-mean_more : (naming : Naming) (names : List (List ℕ)) (texts : List (List ℕ)) (lines : List Line) (text : List ℕ) (l : Line) → MeanLines naming names texts lines → MeansLine naming names text l
-    → MeanLines naming names (texts ++ text ∷ []) (lines ++ l ∷ [])
-mean_more naming names [] [] text l mean means = (means, tt)
-mean_more naming names [] (m ∷ ms) text l mean means = absurd mean
-mean_more naming names (t ∷ ts) [] text l mean means = absurd mean
-mean_more naming names (t ∷ ts) (m ∷ ms) text l mean means = (mean.0, mean_more naming names ts ms text l mean.1 means)
-
-pub nothing_counts : (naming : Naming) (fresh : Bool) → lines_to_read naming fresh [] ≡ []
-nothing_counts naming true = refl
-nothing_counts naming false = refl
-
 -- ---- after some lines
 -- where a certificate line after so many others stands in a text
 pub record IsPosition (naming : Naming) (text : List ℕ) (at i : ℕ) : Type 0 where
@@ -103,8 +85,7 @@ pub record IsPosition (naming : Naming) (text : List ℕ) (at i : ℕ) : Type 0 
   pub count : length (certificate_lines_of naming before) ≡ i
 
 pub record HasReadLines (s : Schema) (text : List ℕ) (before : List (List ℕ)) (fresh : Bool) (lines : List Line) (trees : List Tree) (state : CheckerStateValue) : Type 0 where
-  pub counts : (more : List (List ℕ))
-      → certificate_lines_of (naming_of s) (before ++ more) ≡ certificate_lines_of (naming_of s) before ++ lines_to_read (naming_of s) fresh more
+  pub counts : CountOn (naming_of s) before fresh
   pub mean : MeanLines (naming_of s) (names_of s) (certificate_lines_of (naming_of s) before) lines
   pub read : AreRead s lines trees
   pub follows : Follows s (λ n. uses n lines) trees state
@@ -127,27 +108,14 @@ at_start s text = record {
 pub line_passed_over : (s : Schema) (text : List ℕ) (before : List (List ℕ)) (fresh next : Bool) (lines : List Line) (trees : List Tree) (state : CheckerStateValue) (here : List ℕ)
     → HasReadLines s text before fresh lines trees state
     → ((more : List (List ℕ)) → lines_to_read (naming_of s) fresh (here ∷ more) ≡ lines_to_read (naming_of s) next more) → HasReadLines s text (before ++ here ∷ []) next lines trees state
-line_passed_over s text before fresh next lines trees state here afterwards skips =
-    let so_far = certificate_lines_of (naming_of s) before in
-    let same : certificate_lines_of (naming_of s) (before ++ here ∷ []) ≡ so_far =
-    afterwards.counts (here ∷ []) ∙ ap (λ (ls : List (List ℕ)). so_far ++ ls) (skips [] ∙ nothing_counts (naming_of s) next) ∙ append-nil so_far in
-    record {
-      counts = λ more. ap (certificate_lines_of (naming_of s)) (append_assoc before (here ∷ []) more)
-          ∙ afterwards.counts (here ∷ more)
-          ∙ ap (λ (ls : List (List ℕ)). so_far ++ ls) (skips more)
-          ∙ ap (λ (ls : List (List ℕ)). ls ++ lines_to_read (naming_of s) next more) (sym same);
-      mean = subst (λ (ls : List (List ℕ)). MeanLines (naming_of s) (names_of s) ls lines) (sym same) afterwards.mean;
-      read = afterwards.read;
-      follows = afterwards.follows;
-      size = afterwards.size;
-      positions = afterwards.positions;
-    }
-
--- where a certificate line counts, it stands after those before
-pub counts_here : (s : Schema) (text : List ℕ) (before : List (List ℕ)) (fresh : Bool) (lines : List Line) (trees : List Tree) (state : CheckerStateValue) (here : List ℕ)
-    → HasReadLines s text before fresh lines trees state → Counts (naming_of s) Certificate fresh here
-    → certificate_lines_of (naming_of s) (before ++ here ∷ []) ≡ certificate_lines_of (naming_of s) before ++ here ∷ []
-counts_here s text before fresh lines trees state here afterwards counts = afterwards.counts (here ∷ []) ∙ ap (λ (ls : List (List ℕ)). certificate_lines_of (naming_of s) before ++ ls) (counts [])
+line_passed_over s text before fresh next lines trees state here afterwards skips = record {
+  counts = count_past (naming_of s) before fresh here afterwards.counts next skips;
+  mean = subst (λ (ls : List (List ℕ)). MeanLines (naming_of s) (names_of s) ls lines) (sym (same_lines (naming_of s) before fresh here afterwards.counts next skips)) afterwards.mean;
+  read = afterwards.read;
+  follows = afterwards.follows;
+  size = afterwards.size;
+  positions = afterwards.positions;
+}
 
 -- a line is entered
 pub one_more : (s : Schema) (text : List ℕ) (before : List (List ℕ)) (fresh : Bool) (lines : List Line) (trees : List Tree) (state : CheckerStateValue) (here : List ℕ) (at : ℕ) (l : Line) (u : Tree)
@@ -156,7 +124,7 @@ pub one_more : (s : Schema) (text : List ℕ) (before : List (List ℕ)) (fresh 
     → HasReadLines s text (before ++ here ∷ []) false (lines ++ l ∷ []) (trees ++ u ∷ []) next
 one_more s text before fresh lines trees state here at l u next afterwards counts stands means enter is =
     let so_far = certificate_lines_of (naming_of s) before in
-    let whole = counts_here s text before fresh lines trees state here afterwards counts in
+    let whole = one_line_more (naming_of s) before fresh here afterwards.counts counts in
     let adds = entered_adds s at state next l enter in
     let count = nodes_size s [] lines trees afterwards.read.nodes in
     let used : ℕ → ℕ = λ n. uses n (lines ++ l ∷ []) in
@@ -177,7 +145,7 @@ one_more s text before fresh lines trees state here at l u next afterwards count
     let last : length state.lines ≡ i = omega (arith, past, h, length-append state.lines (at ∷ [])) in
     let value : slice_index (state.lines ++ at ∷ []) i ≡ at =
     sym (ap (slice_index (state.lines ++ at ∷ [])) last) ∙ get_or-append_seam state.lines at [] 0 in
-    let size = mean_size (naming_of s) (names_of s) so_far lines afterwards.mean in
+    let size = AllZip-long (MeansLine (naming_of s) (names_of s)) so_far lines afterwards.mean in
     subst (λ (n : ℕ). IsPosition (naming_of s) text n i) (sym value)
     (record {
       before = before;
@@ -187,13 +155,9 @@ one_more s text before fresh lines trees state here at l u next afterwards count
     }))
     (cases_lt i (length state.lines)) in
     record {
-      counts = λ more. ap (certificate_lines_of (naming_of s)) (append_assoc before (here ∷ []) more)
-          ∙ afterwards.counts (here ∷ more)
-          ∙ ap (λ (ls : List (List ℕ)). so_far ++ ls) (counts more)
-          ∙ sym (append_assoc so_far (here ∷ []) (lines_to_read (naming_of s) false more))
-          ∙ ap (λ (ls : List (List ℕ)). ls ++ lines_to_read (naming_of s) false more) (sym whole);
+      counts = count_after (naming_of s) before fresh here afterwards.counts counts;
       mean = subst (λ (ls : List (List ℕ)). MeanLines (naming_of s) (names_of s) ls (lines ++ l ∷ [])) (sym whole)
-          (mean_more (naming_of s) (names_of s) so_far lines here l afterwards.mean means);
+          (all_zipped_more (MeansLine (naming_of s) (names_of s)) so_far lines here l afterwards.mean means);
       read = record {
         nodes = AreNodes-append s [] lines trees (l ∷ []) (u ∷ []) afterwards.read.nodes (is.node, tt);
         once = λ n low. follows_once s used (trees ++ u ∷ []) next n follows low;

@@ -3,7 +3,7 @@ use Rattle.std.proofs.Common.{◌≡◌, ◌<◌, ◌+◌, ◌==◌, ℕ, zero, 
 use Rattle.std.specs.Prelude.{filter, nat_eq}
 use Rattle.std.proofs.lemmas.Bool.Decides.{nat_tests}
 use Rattle.std.proofs.lemmas.Option.{same_Some}
-use Rattle.dep_model.specs.declared.schema.Schema.{Schema}
+use Rattle.schema_model.specs.Schemas.{Schema, theory_in}
 use Rattle.derivation.specs.Trees.{Tree, depth}
 use Rattle.derivation.specs.Conclusions.{Proves}
 use Rattle.derivation.proofs.WithinLemmas.{TreeOfAttributes}
@@ -13,7 +13,7 @@ use Rattle.proof_grammar.specs.CheckerStates.{Opened}
 pub record IsOpen (s : Schema) (t : Tree) (o : Opened) : Type 0 where
   pub tree : o.tree ≡ t
   pub levels : o.levels ≡ depth t
-  pub proves : Proves s t o.conclusion
+  pub proves : Proves (theory_in s) t o.conclusion
   pub attributes : TreeOfAttributes t
 
 -- a line that is used so often

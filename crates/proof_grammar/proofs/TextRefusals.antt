@@ -2,8 +2,8 @@
 use Rattle.std.proofs.Common.{◌≡◌, ◌⊎◌, ⊎_elim, ◌+◌, ◌-◌, inl, inr, ℕ, Bool, true, List, [], ◌∷◌, length, Err, refl, sym, ◌∙◌, ap, subst, arith, length-append}
 use Rattle.std.specs.Prelude.{slice_index}
 use Rattle.std.proofs.lemmas.List.{nil_from_length}
-use Rattle.dep_model.specs.declared.schema.Schema.{Schema}
-use Rattle.dep_model.specs.Schemas.{names_of, naming_of}
+use Rattle.schema_model.specs.Schemas.{Schema}
+use Rattle.schema_model.specs.Schemas.{names_of, naming_of}
 use Rattle.derivation.specs.Trees.{Tree}
 use Rattle.lexer.specs.Modes as mode
 use Rattle.lexer.specs.Lines.{line_texts, without_mark}
@@ -19,13 +19,13 @@ use Rattle.proof_grammar.specs.Refusals.{StandsAt, IsBadLine, IsWrongLine, IsRef
 use Rattle.proof_grammar.specs.Spelling.{uses}
 use Rattle.proof_grammar.specs.Texts.{read_as, line_kind, read_one, read_certificate_lines, read_proof}
 use Rattle.proof_grammar.proofs.CertificateLaws.{TextFits, text_fits, end_back}
-use Rattle.proof_grammar.proofs.CountedLines.{lines_to_read, Counts, kind_counts, line_of_attributes}
+use Rattle.proof_grammar.proofs.CountedLines.{lines_to_read, Counts, kind_counts, line_of_attributes, nothing_counts}
 use Rattle.proof_grammar.proofs.DepthLemmas.{nodes_size}
 use Rattle.proof_grammar.proofs.EnteredRefusals.{refused_entered}
 use Rattle.proof_grammar.proofs.LineLaws.{line_back}
 use Rattle.proof_grammar.proofs.LineRefusals as refusals
 use Rattle.proof_grammar.proofs.PositionLemmas.{same_position}
-use Rattle.proof_grammar.proofs.ReadLines.{read_from, nothing_counts, HasReadLines}
+use Rattle.proof_grammar.proofs.ReadLines.{read_from, HasReadLines}
 use Rattle.proof_grammar.proofs.WalkedLines.{read_lines_walked}
 
 -- what is refused goes wrong so

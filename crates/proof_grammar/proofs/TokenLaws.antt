@@ -7,7 +7,8 @@ use Rattle.std.proofs.lemmas.Slice.Eq.{bytes_eq-Decides}
 use Rattle.derivation.proofs.RuleTableLemmas.{some_of_ok, the_ok, cond-ok}
 use Rattle.lexer.specs.declared.token.TokenKind.{TokenKind}
 use Rattle.lexer.specs.declared.token.TokenKind.TheVariants as token
-use Rattle.lexer.specs.Tokens.{Mark}
+use Rattle.lexer.specs.Tokens.{Mark, is_colon}
+use Rattle.lexer.proofs.KindLemmas.{colon_kind}
 use Rattle.schema_grammar.specs.declared.refusal.What.{What}
 use Rattle.schema_grammar.specs.declared.refusal.What.TheVariants as what
 use Rattle.proof_grammar.specs.declared.rule_name.RuleName.{RuleName}
@@ -15,7 +16,7 @@ use Rattle.proof_grammar.specs.declared.rule_name.RuleName.TheVariants as rule
 use Rattle.proof_grammar.specs.Meanings.{IsColon, IsNumber, IsKeyword}
 use Rattle.schema_grammar.specs.Rests.{number_in, Rest, ◌>>=◌, take, refusal_of_token, number}
 use Rattle.proof_grammar.specs.Readers.{colon, with_word}
-use Rattle.proof_grammar.specs.Tokens.{is_colon, is_with, rule_named, rule_word}
+use Rattle.proof_grammar.specs.Tokens.{is_with, rule_named, rule_word}
 use Rattle.proof_grammar.proofs.CheckedLemmas.{bind_ok}
 use Rattle.proof_grammar.proofs.SideLaws.{Takes, take_there}
 
@@ -60,10 +61,6 @@ pub number_there : (r : Rest) (v : ℕ × Rest) → number r ≡ Ok v → Reads 
 unfolding number
 number_there r v e =
     reads_value what.Number (λ m. number_in m.kind) IsNumber (λ n m h. number_kind n m.kind h) r v e
-
-colon_kind : (k : TokenKind) → is_colon k ≡ true → k ≡ token.Colon
-colon_kind token.Colon e = refl
-colon_kind _ e = cc
 
 pub colon_there : (r next : Rest) → colon r ≡ Ok next → Reads IsColon r next
 unfolding colon

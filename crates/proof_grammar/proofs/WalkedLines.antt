@@ -2,8 +2,8 @@
 use Rattle.std.proofs.Common.{◌≡◌, ◌<◌, ◌≤◌, ◌+◌, ℕ, Bool, true, false, List, [], ◌∷◌, ◌++◌, length, get_or, Result, refl, sym, ◌∙◌, ap, subst, arith, length-append, append_assoc}
 use Rattle.std.proofs.Math.Seq.{get_or-append_seam}
 use Rattle.std.proofs.lemmas.List.{append-nil}
-use Rattle.dep_model.specs.declared.schema.Schema.{Schema}
-use Rattle.dep_model.specs.Schemas.{names_of, naming_of}
+use Rattle.schema_model.specs.Schemas.{Schema}
+use Rattle.schema_model.specs.Schemas.{names_of, naming_of}
 use Rattle.derivation.specs.declared.measures.TheConstants.{MOST_NODES, MOST_LEVELS}
 use Rattle.derivation.specs.Trees.{Tree, depth}
 use Rattle.lexer.specs.Modes as mode
@@ -17,7 +17,7 @@ use Rattle.proof_grammar.specs.Lines.{Line}
 use Rattle.proof_grammar.specs.Meanings.{certificate_lines_of, MeanLines}
 use Rattle.proof_grammar.specs.Spelling.{AreNodes, uses}
 use Rattle.proof_grammar.specs.Texts.{read_as, line_kind, read_one, read_certificate_lines}
-use Rattle.proof_grammar.proofs.CountedLines.{lines_to_read, Counts, kind_counts, line_of_attributes}
+use Rattle.proof_grammar.proofs.CountedLines.{lines_to_read, Counts, kind_counts, line_of_attributes, nothing_counts, one_line_more}
 use Rattle.proof_grammar.proofs.DepthLemmas.{uses_first, nodes_size}
 use Rattle.proof_grammar.proofs.EnteredLaws.{used_after}
 use Rattle.proof_grammar.proofs.EnteredRefusals.{entered_back}
@@ -25,7 +25,7 @@ use Rattle.proof_grammar.proofs.LineLaws.{line_back}
 use Rattle.proof_grammar.proofs.NodeLemmas.{uses-append}
 use Rattle.proof_grammar.specs.Refusals.{StandsAt}
 use Rattle.proof_grammar.specs.Wrongs.{AreRead}
-use Rattle.proof_grammar.proofs.ReadLines.{read_from, nothing_counts, HasReadLines, at_start, line_passed_over, counts_here, one_more}
+use Rattle.proof_grammar.proofs.ReadLines.{read_from, HasReadLines, at_start, line_passed_over, one_more}
 
 -- the reader after the lines before, of which it read this
 pub record IsWalked (s : Schema) (text : List ℕ) (before after : List (List ℕ)) (lines : List Line) (trees : List Tree)
@@ -120,7 +120,7 @@ walk_more Certificate s text after whole all grown number here texts (l ∷ more
       after = texts ++ after;
       cut = w.cut;
       number = w.count;
-      counts = counts_here s text w.before w.fresh w.lines w.trees w.state here w.afterwards counts;
+      counts = one_line_more (naming_of s) w.before w.fresh here w.afterwards.counts counts;
     } in
     rw (line_back (naming_of s) (names_of s) number here l means.0, enters.1) (on more us (record {
       before = w.before ++ here ∷ [];

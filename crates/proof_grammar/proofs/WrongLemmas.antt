@@ -2,7 +2,7 @@
 use Rattle.std.proofs.Common.{◌≡◌, ◌<◌, ◌≤◌, ◌⊎◌, inl, inr, ◌+◌, ℕ, Bool, true, false, List, length, Result, Ok, Err, refl, sym, ◌∙◌, ap, subst, arith}
 use Rattle.std.specs.Prelude.{nat_lt}
 use Rattle.std.proofs.lemmas.Bool.Decides.{nat_tests}
-use Rattle.dep_model.specs.declared.schema.Schema.{Schema}
+use Rattle.schema_model.specs.Schemas.{Schema, theory_in}
 use Rattle.dep_model.specs.Dependencies.{Dependency, left_of, right_of}
 use Rattle.derivation.specs.declared.fault.FaultKind.{FaultKind}
 use Rattle.derivation.specs.declared.fault.FaultKind.TheVariants.{NoSuchGiven}
@@ -55,27 +55,27 @@ first_of s lines trees l k high none _ wrong = absurd wrong
 -- what it says of the rule of a line
 abbrev Says : Schema → List Tree → Line → Body → Result Dependency FaultKind → Type 0
 Says s trees l (by_given k) r = ((k ≡ 0) × (r ≡ Err NoSuchGiven))
-    ⊎ ((i : ℕ) × (k ≡ i + 1) × (leaf_conclusion s (given i) ≡ r))
-Says s trees l by_reflexivity r = leaf_conclusion s (reflexivity (left_of l.stated) (right_of l.stated)) ≡ r
-Says s trees l by_mreflexivity r = leaf_conclusion s (mreflexivity (left_of l.stated) (right_of l.stated)) ≡ r
+    ⊎ ((i : ℕ) × (k ≡ i + 1) × (leaf_conclusion (theory_in s) (given i) ≡ r))
+Says s trees l by_reflexivity r = leaf_conclusion (theory_in s) (reflexivity (left_of l.stated) (right_of l.stated)) ≡ r
+Says s trees l by_mreflexivity r = leaf_conclusion (theory_in s) (mreflexivity (left_of l.stated) (right_of l.stated)) ≡ r
 Says s trees l (by_step rule p) r =
-    (t : Tree) × (d : Dependency) × IsTreeAt trees p t × Proves s t d × (step_conclusion s rule d ≡ r)
+    (t : Tree) × (d : Dependency) × IsTreeAt trees p t × Proves (theory_in s) t d × (step_conclusion (theory_in s) rule d ≡ r)
 Says s trees l (by_pair rule p q) r =
     (t : Tree) × (u : Tree) × (d : Dependency) × (e : Dependency) × IsTreeAt trees p t × IsTreeAt trees q u
-    × Proves s t d × Proves s u e × (pair_conclusion rule d e ≡ r)
+    × Proves (theory_in s) t d × Proves (theory_in s) u e × (pair_conclusion rule d e ≡ r)
 
 tree_says : (s : Schema) (trees : List Tree) (l : Line) (b : Body) (t : Tree) (d : Dependency) → IsTreeOf trees l b t
-    → Proves s t d → Says s trees l b (Ok d)
+    → Proves (theory_in s) t d → Says s trees l b (Ok d)
 tree_says s trees l (by_given k) t d tree proves =
-    inr (tree.before, tree.number, subst (λ (v : Tree). Proves s v d) tree.tree proves)
-tree_says s trees l by_reflexivity t d tree proves = subst (λ (v : Tree). Proves s v d) tree proves
-tree_says s trees l by_mreflexivity t d tree proves = subst (λ (v : Tree). Proves s v d) tree proves
+    inr (tree.before, tree.number, subst (λ (v : Tree). Proves (theory_in s) v d) tree.tree proves)
+tree_says s trees l by_reflexivity t d tree proves = subst (λ (v : Tree). Proves (theory_in s) v d) tree proves
+tree_says s trees l by_mreflexivity t d tree proves = subst (λ (v : Tree). Proves (theory_in s) v d) tree proves
 tree_says s trees l (by_step rule p) t d tree proves =
-    let concludes : Proves s (step rule tree.premise) d = subst (λ (v : Tree). Proves s v d) tree.tree proves in
+    let concludes : Proves (theory_in s) (step rule tree.premise) d = subst (λ (v : Tree). Proves (theory_in s) v d) tree.tree proves in
     (tree.premise, concludes.0, tree.earlier, concludes.1, concludes.2)
 tree_says s trees l (by_pair rule p q) t d tree proves =
-    let concludes : Proves s (pair rule tree.first tree.second) d =
-    subst (λ (v : Tree). Proves s v d) tree.tree proves in (
+    let concludes : Proves (theory_in s) (pair rule tree.first tree.second) d =
+    subst (λ (v : Tree). Proves (theory_in s) v d) tree.tree proves in (
       tree.first,
       tree.second,
       concludes.0,
@@ -109,9 +109,9 @@ fault_says s trees l (by_pair rule p q) why fault = (
 
 -- the line of a number proves one dependency
 one_proved : (s : Schema) (trees : List Tree) (p : ℕ) (t u : Tree) (d e : Dependency) → IsTreeAt trees p t
-    → IsTreeAt trees p u → Proves s t d → Proves s u e → d ≡ e
+    → IsTreeAt trees p u → Proves (theory_in s) t d → Proves (theory_in s) u e → d ≡ e
 one_proved s trees p t u d e first second proves other =
-    Proves-one s u d e (subst (λ (v : Tree). Proves s v d) (same_tree trees p t u first second) proves) other
+    Proves-one (theory_in s) u d e (subst (λ (v : Tree). Proves (theory_in s) v d) (same_tree trees p t u first second) proves) other
 
 one_says : (s : Schema) (trees : List Tree) (l : Line) (b : Body) (x y : Result Dependency FaultKind)
     → Says s trees l b x → Says s trees l b y → x ≡ y
@@ -120,19 +120,19 @@ one_says s trees l (by_given k) x y (inl first) (inr second) = absurd (omega (ar
 one_says s trees l (by_given k) x y (inr first) (inl second) = absurd (omega (arith, first.1, second.0))
 one_says s trees l (by_given k) x y (inr first) (inr second) =
     let same : first.0 ≡ second.0 = omega (arith, first.1, second.1) in
-    sym first.2 ∙ ap (λ i. leaf_conclusion s (given i)) same ∙ second.2
+    sym first.2 ∙ ap (λ i. leaf_conclusion (theory_in s) (given i)) same ∙ second.2
 one_says s trees l by_reflexivity x y first second = sym first ∙ second
 one_says s trees l by_mreflexivity x y first second = sym first ∙ second
 one_says s trees l (by_step rule p) x y first second =
     let same = one_proved s trees p first.0 second.0 first.1 second.1 first.2 second.2 first.3 second.3 in
-    sym first.4 ∙ ap (step_conclusion s rule) same ∙ second.4
+    sym first.4 ∙ ap (step_conclusion (theory_in s) rule) same ∙ second.4
 one_says s trees l (by_pair rule p q) x y first second =
     let left = one_proved s trees p first.0 second.0 first.2 second.2 first.4 second.4 first.6 second.6 in
     let right = one_proved s trees q first.1 second.1 first.3 second.3 first.5 second.5 first.7 second.7 in
     sym first.8 ∙ (λ i. pair_conclusion rule (left i) (right i)) ∙ second.8
 
 pub no_fault : (s : Schema) (trees : List Tree) (l : Line) (b : Body) (t : Tree) (d : Dependency) (why : FaultKind)
-    → IsTreeOf trees l b t → Proves s t d → NodeFault s trees l b why → ⊥
+    → IsTreeOf trees l b t → Proves (theory_in s) t d → NodeFault s trees l b why → ⊥
 no_fault s trees l b t d why tree proves fault =
     let wrong : ◌≡◌ {A = Result Dependency FaultKind} (Ok d) (Err why) =
     one_says s trees l b _ _ (tree_says s trees l b t d tree proves) (fault_says s trees l b why fault) in cc
@@ -154,8 +154,8 @@ one_of_rank s lines trees l (unsound f) (unsound g) e wrong other =
     (λ i. unsound (record { node = node i; kind = why i }))
 one_of_rank s lines trees l (states_other stated concluded) (states_other says proves) e wrong other =
     let tree = tree_of_line trees l l.body wrong.1.tree other.1.tree wrong.1.is other.1.is in
-    let moved = subst (λ (t : Tree). Proves s t concluded) tree wrong.1.proves in
-    let same = Proves-one s other.1.tree concluded proves moved other.1.proves in
+    let moved = subst (λ (t : Tree). Proves (theory_in s) t concluded) tree wrong.1.proves in
+    let same = Proves-one (theory_in s) other.1.tree concluded proves moved other.1.proves in
     (λ i. states_other ((wrong.0 ∙ sym other.0) i) (same i))
 one_of_rank s lines trees l (bad_line why) d e wrong other = absurd wrong
 one_of_rank s lines trees l never_used d e wrong other = absurd wrong

@@ -1,7 +1,7 @@
 -- The certificate lines that were read so far, as nodes, and what is still unused of them: for the
 -- reading of certificates (`Texts`). `Desk` does not cite it.
 use Rattle.std.specs.Prelude.{ℕ, ◌+◌, ◌-◌, ◌==◌, Bool, ◌&&◌, if◌then◌else◌, nat_lt, nat_le, List, [], ◌∷◌, ◌++◌, length, take, slice_get, slice_set, slice_index, position, Option, None, Some, option_map, is_some, Result, Ok, Err, max}
-use Rattle.dep_model.specs.declared.schema.Schema.{Schema}
+use Rattle.schema_model.specs.Schemas.{Schema, theory_in}
 use Rattle.dep_model.specs.Dependencies.{Dependency, left_of, right_of}
 use Rattle.derivation.specs.declared.fault.FaultKind.{FaultKind}
 use Rattle.derivation.specs.Trees.{Tree, leaf, step, pair, reflexivity, mreflexivity, Step, Pair, Leaf}
@@ -49,7 +49,7 @@ pub record Prepared : Type 0 where
 -- the node of a rule without premises
 abbrev pub leaf_node : Schema → Leaf → List (Option Opened) → Result Prepared Diagnostic
 leaf_node s rule unused =
-    Ok (record { levels = 1; outcome = with_tree (leaf rule) (leaf_conclusion s rule); unused = unused })
+    Ok (record { levels = 1; outcome = with_tree (leaf rule) (leaf_conclusion (theory_in s) rule); unused = unused })
 
 -- the node of a rule over what is unused of one line; refused where the line was used before
 abbrev pub step_node : Schema → Step → Option Opened → List (Option Opened) → Result Prepared Diagnostic
@@ -58,7 +58,7 @@ step_node s rule (Some t) unused =
     Ok (record {
       levels = t.levels + 1;
       outcome = with_tree (step rule t.tree)
-          (step_conclusion s rule t.conclusion);
+          (step_conclusion (theory_in s) rule t.conclusion);
       unused = unused;
     })
 

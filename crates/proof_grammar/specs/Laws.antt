@@ -1,15 +1,15 @@
 -- The laws that tie the reading of a certificate to what it spells, and what printed certificates
 -- spell: for the functions of `laws.rt`. `Desk` does not cite it.
 use Rattle.std.specs.Prelude.{◌≡◌, ◌≤◌, ◌↔◌, ℕ, List, ◌++◌, length, map, All, codes, Ok, Err}
-use Rattle.dep_model.specs.declared.schema.Schema.{Schema}
+use Rattle.schema_model.specs.Schemas.{Schema, theory_in}
 use Rattle.dep_model.specs.Dependencies.{Dependency}
-use Rattle.dep_model.specs.Schemas.{names_of, naming_of}
+use Rattle.schema_model.specs.Schemas.{names_of, naming_of}
 use Rattle.derivation.specs.declared.deriv.Deriv.{Deriv}
 use Rattle.derivation.specs.declared.measures.TheConstants.{MOST_NODES, MOST_LEVELS}
 use Rattle.derivation.specs.Conclusions.{Proves}
 use Rattle.derivation.specs.Derivs.{tree_of}
 use Rattle.derivation.specs.Trees.{Tree, nodes, depth}
-use Rattle.dep_model.specs.declared.naming.Naming.{Naming}
+use Rattle.schema_model.specs.declared.naming.Naming.{Naming}
 use Rattle.lexer.specs.Modes as mode
 use Rattle.lexer.specs.Tokens.{lex}
 use Rattle.schema_grammar.specs.declared.format.Format.TheVariants as format
@@ -71,7 +71,7 @@ PrintedLineMeans =
 -- the lines that are printed of a tree are its nodes
 abbrev pub PrintedNodes : Type 0
 PrintedNodes =
-    (s : Schema) (p : Deriv) (d : Dependency) → Proves s (tree_of p) d
+    (s : Schema) (p : Deriv) (d : Dependency) → Proves (theory_in s) (tree_of p) d
     → AreNodesOf s (node_lines_after s 0 (tree_of p)) (tree_of p)
     × (length (node_lines_after s 0 (tree_of p)) ≡ nodes (tree_of p))
 
@@ -79,12 +79,12 @@ PrintedNodes =
 abbrev pub PrintedSpells : List ℕ → Type 0
 PrintedSpells before =
     (s : Schema) (p : Deriv) (d : Dependency) → All (IsReadBack format.Plain (naming_of s)) (names_of s)
-    → Proves s (tree_of p) d → nodes (tree_of p) ≤ MOST_NODES
+    → Proves (theory_in s) (tree_of p) d → nodes (tree_of p) ≤ MOST_NODES
     → Spells s (before ++ canonical_certificate s (tree_of p)) (tree_of p)
 
 -- and is read as it
 abbrev pub PrintedIsRead : List ℕ → Type 0
 PrintedIsRead before =
     (s : Schema) (p : Deriv) (d : Dependency) → All (IsReadBack format.Plain (naming_of s)) (names_of s)
-    → Proves s (tree_of p) d → nodes (tree_of p) ≤ MOST_NODES → depth (tree_of p) ≤ MOST_LEVELS
+    → Proves (theory_in s) (tree_of p) d → nodes (tree_of p) ≤ MOST_NODES → depth (tree_of p) ≤ MOST_LEVELS
     → read_proof s (before ++ canonical_certificate s (tree_of p)) ≡ Ok (tree_of p)

@@ -1,9 +1,10 @@
 -- What the lines of a certificate mean, by their grammar: for what a certificate spells
 -- (`Spelling`).
 use Rattle.std.specs.Prelude.{◌≡◌, ℕ, Bool, false, ◌&&◌, not, if◌then◌else◌, List, [], ◌∷◌, ◌++◌, filter, Option, codes}
+use Rattle.std.specs.List.{AllZip}
 use Rattle.attr_sets.specs.Attributes.{Attributes}
 use Rattle.derivation.specs.Trees.{Step, augmentation, complementation, maugmentation, replication, Pair, transitivity, mtransitivity, coalescence}
-use Rattle.dep_model.specs.declared.naming.Naming.{Naming}
+use Rattle.schema_model.specs.declared.naming.Naming.{Naming}
 use Rattle.lexer.specs.Modes as mode
 use Rattle.lexer.specs.declared.token.LexError.{LexError}
 use Rattle.lexer.specs.declared.token.TokenKind.TheVariants as token
@@ -155,7 +156,4 @@ pub record MeansLine (naming : Naming) (names : List (List ℕ)) (text : List �
 
 -- each text means its line
 abbrev pub MeanLines : Naming → List (List ℕ) → List (List ℕ) → List Line → Type 0
-MeanLines naming names [] [] = Unit {0}
-MeanLines naming names (text ∷ texts) (l ∷ ls) =
-    MeansLine naming names text l × MeanLines naming names texts ls
-MeanLines naming names _ _ = ⊥
+MeanLines naming names = AllZip (MeansLine naming names)

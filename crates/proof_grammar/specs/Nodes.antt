@@ -2,7 +2,7 @@
 -- does not cite it.
 use Rattle.std.specs.Prelude.{ℕ, ◌==◌, ◌-◌, Bool, false, ◌&&◌, if◌then◌else◌, Result, Ok, Err}
 use Rattle.attr_sets.specs.Sets.{is_same}
-use Rattle.dep_model.specs.declared.schema.Schema.{Schema}
+use Rattle.schema_model.specs.Schemas.{Schema, theory_in}
 use Rattle.dep_model.specs.Dependencies.{Dependency, fd, mvd}
 use Rattle.derivation.specs.declared.fault.FaultKind.{FaultKind}
 use Rattle.derivation.specs.declared.fault.FaultKind.TheVariants.{NoSuchGiven}
@@ -17,7 +17,7 @@ with_tree t (Err why) = Err why
 -- the dependency of this number, from 1
 abbrev pub given_outcome : Schema → ℕ → Result (Tree × Dependency) FaultKind
 given_outcome s k = if k == 0 then Err NoSuchGiven
-    else with_tree (leaf (given (k - 1))) (leaf_conclusion s (given (k - 1)))
+    else with_tree (leaf (given (k - 1))) (leaf_conclusion (theory_in s) (given (k - 1)))
 
 -- whether two dependencies are one
 abbrev pub same_dependency : Dependency → Dependency → Bool

@@ -3,7 +3,7 @@
 use Rattle.std.specs.Prelude.{ℕ, ◌+◌, List, [], ◌∷◌, ◌++◌, codes, decimal, Result, Ok, Err}
 use Rattle.std.specs.List.{flat_map}
 use Rattle.attr_sets.specs.Attributes.{Attributes, IsSubset}
-use Rattle.dep_model.specs.declared.schema.Schema.{Schema}
+use Rattle.schema_model.specs.Schemas.{Schema, theory_in}
 use Rattle.dep_model.specs.Dependencies.{Dependency}
 use Rattle.derivation.specs.declared.fault.Fault.{Fault}
 use Rattle.derivation.specs.Trees.{Leaf, given, reflexivity, mreflexivity, Step, augmentation, complementation, maugmentation, replication, Pair, transitivity, mtransitivity, coalescence, Tree, leaf, step, pair, nodes}
@@ -65,13 +65,13 @@ node_line n (Err fault) body = []
 
 -- the nodes in post-order, numbered after this many others
 abbrev pub node_lines_after : Schema → ℕ → Tree → List Line
-node_lines_after s n (leaf rule) = node_line (n + 1) (conclusion_after s 0 (leaf rule)) (leaf_body rule)
+node_lines_after s n (leaf rule) = node_line (n + 1) (conclusion_after (theory_in s) 0 (leaf rule)) (leaf_body rule)
 node_lines_after s n (step rule t) =
     node_lines_after s n t
-    ++ node_line (n + nodes t + 1) (conclusion_after s 0 (step rule t)) (by_step rule (n + nodes t))
+    ++ node_line (n + nodes t + 1) (conclusion_after (theory_in s) 0 (step rule t)) (by_step rule (n + nodes t))
 node_lines_after s n (pair rule t u) =
     node_lines_after s n t ++ node_lines_after s (n + nodes t) u
-    ++ node_line (n + nodes t + nodes u + 1) (conclusion_after s 0 (pair rule t u))
+    ++ node_line (n + nodes t + nodes u + 1) (conclusion_after (theory_in s) 0 (pair rule t u))
     (by_pair rule (n + nodes t) (n + nodes t + nodes u))
 
 -- the text of lines
@@ -85,7 +85,7 @@ canonical_certificate s t = certificate_lines_text (printed_names_of s) (node_li
 -- ---- what can be printed
 -- a tree proves some dependency
 abbrev pub IsProof : Schema → Tree → Type 0
-IsProof s t = (d : Dependency) × Proves s t d
+IsProof s t = (d : Dependency) × Proves (theory_in s) t d
 
 -- the sets of a rule lie within a set
 abbrev pub IsStepWithin : Attributes → Step → Type 0

@@ -1,11 +1,12 @@
 -- The colons and the words of a certificate line, as they are read: for the reading of lines
 -- (`Lines`).
 use Rattle.std.specs.Prelude.{if◌then◌else◌, Result, Ok, Err, ok_or}
+use Rattle.lexer.specs.Tokens.{is_colon}
 use Rattle.schema_grammar.specs.declared.refusal.SchemaRefusal.{SchemaRefusal}
 use Rattle.schema_grammar.specs.declared.refusal.What.TheVariants as what
 use Rattle.schema_grammar.specs.Rests.{Rest, ◌>>=◌, take, refusal_of_token}
 use Rattle.proof_grammar.specs.declared.rule_name.RuleName.{RuleName}
-use Rattle.proof_grammar.specs.Tokens.{is_colon, is_with, rule_named}
+use Rattle.proof_grammar.specs.Tokens.{is_with, rule_named}
 
 -- what is left after a colon
 unfoldable pub colon : Rest → Result Rest SchemaRefusal

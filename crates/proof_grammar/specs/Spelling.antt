@@ -2,9 +2,9 @@
 -- (`desk_inputs/Inputs`).
 use Rattle.std.specs.Prelude.{◌≡◌, ◌<◌, ◌≤◌, ℕ, ◌+◌, List, [], ◌∷◌, ◌++◌, length, filter, nat_eq, slice_get, Some}
 use Rattle.std.specs.List.{flat_map}
-use Rattle.dep_model.specs.declared.schema.Schema.{Schema}
+use Rattle.schema_model.specs.Schemas.{Schema, theory_in}
 use Rattle.dep_model.specs.Dependencies.{left_of, right_of}
-use Rattle.dep_model.specs.Schemas.{names_of, naming_of}
+use Rattle.schema_model.specs.Schemas.{names_of, naming_of}
 use Rattle.derivation.specs.declared.measures.TheConstants.{MOST_NODES, MOST_LEVELS}
 use Rattle.derivation.specs.Trees.{Tree, depth, leaf, step, pair, given, reflexivity, mreflexivity, Step, Pair}
 use Rattle.derivation.specs.Conclusions.{Proves}
@@ -50,7 +50,7 @@ IsTreeOf trees l (by_pair rule p q) t = IsPairTree trees rule p q t
 pub record IsNode (s : Schema) (trees : List Tree) (l : Line) (t : Tree) : Type 0 where
   pub number : l.number ≡ length trees + 1
   pub tree : IsTreeOf trees l l.body t
-  pub states : Proves s t l.stated
+  pub states : Proves (theory_in s) t l.stated
 
 -- each line is a node, after lines of these trees
 abbrev pub AreNodes : Schema → List Tree → List Line → List Tree → Type 0

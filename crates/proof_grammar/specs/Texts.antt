@@ -2,8 +2,8 @@
 -- `Desk` cites only the tests of lines that do not count.
 use Rattle.std.specs.Prelude.{ℕ, ◌+◌, ◌-◌, Bool, true, false, ◌&&◌, if◌then◌else◌, List, [], ◌∷◌, Option, None, Some, Result, Ok, Err, codes}
 use Rattle.std.specs.Str.{bytes_eq}
-use Rattle.dep_model.specs.declared.schema.Schema.{Schema}
-use Rattle.dep_model.specs.Schemas.{names_of, naming_of}
+use Rattle.schema_model.specs.Schemas.{Schema}
+use Rattle.schema_model.specs.Schemas.{names_of, naming_of}
 use Rattle.derivation.specs.Trees.{Tree}
 use Rattle.lexer.specs.Modes as mode
 use Rattle.lexer.specs.declared.token.LexError.{LexError}

@@ -7,12 +7,7 @@ use Rattle.lexer.specs.declared.token.TokenKind.TheVariants as token
 use Rattle.proof_grammar.specs.declared.rule_name.RuleName.{RuleName}
 use Rattle.proof_grammar.specs.declared.rule_name.RuleName.TheVariants as rule
 
--- whether a token is a colon
-abbrev pub is_colon : TokenKind → Bool
-is_colon token.Colon = true
-is_colon _ = false
-
--- whether it is the word `with`
+-- whether a token is the word `with`
 unfoldable pub is_with : TokenKind → List ℕ → Bool
 is_with token.Identifier word = bytes_eq word (codes "with")
 is_with _ word = false

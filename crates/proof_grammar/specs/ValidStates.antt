@@ -1,7 +1,7 @@
 -- What holds of the certificate lines that were read so far: for the reader of certificates,
 -- proof_text. `Desk` does not cite it.
 use Rattle.std.specs.Prelude.{◌≡◌, ◌≤◌, ◌+◌, ℕ, List, [], ◌∷◌, length, Option, Some, None}
-use Rattle.dep_model.specs.declared.schema.Schema.{Schema}
+use Rattle.schema_model.specs.Schemas.{Schema, theory_in}
 use Rattle.derivation.specs.Trees.{nodes, depth}
 use Rattle.derivation.specs.Conclusions.{Proves}
 use Rattle.derivation.specs.declared.measures.TheConstants.{MOST_NODES, MOST_LEVELS}
@@ -9,7 +9,7 @@ use Rattle.proof_grammar.specs.CheckerStates.{Opened, CheckerStateValue}
 
 -- an open line proves its conclusion, and has the levels of its tree, which are few enough
 pub record ProvesItsConclusion (s : Schema) (o : Opened) : Type 0 where
-  pub proves : Proves s o.tree o.conclusion
+  pub proves : Proves (theory_in s) o.tree o.conclusion
   pub levels : depth o.tree ≡ o.levels
   pub levels_fit : o.levels ≤ MOST_LEVELS
 

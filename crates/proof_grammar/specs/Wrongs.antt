@@ -1,6 +1,6 @@
 -- What is wrong with a certificate line, after lines that are nodes: for `Refusals`.
 use Rattle.std.specs.Prelude.{◌≡◌, ◌⊎◌, ◌<◌, ◌≤◌, ℕ, ◌+◌, List, [], ◌∷◌, ◌++◌, length, All, Err}
-use Rattle.dep_model.specs.declared.schema.Schema.{Schema}
+use Rattle.schema_model.specs.Schemas.{Schema, theory_in}
 use Rattle.dep_model.specs.Dependencies.{Dependency, left_of, right_of}
 use Rattle.derivation.specs.declared.fault.FaultKind.{FaultKind}
 use Rattle.derivation.specs.declared.fault.FaultKind.TheVariants.{NoSuchGiven}
@@ -38,8 +38,8 @@ pub record StepFault (s : Schema) (trees : List Tree) (rule : Step) (p : ℕ) (w
   pub premise : Tree
   pub conclusion : Dependency
   pub at : IsTreeAt trees p premise
-  pub proves : Proves s premise conclusion
-  pub refused : step_conclusion s rule conclusion ≡ Err why
+  pub proves : Proves (theory_in s) premise conclusion
+  pub refused : step_conclusion (theory_in s) rule conclusion ≡ Err why
 
 -- or one with two
 pub record PairFault (s : Schema) (trees : List Tree) (rule : Pair) (p q : ℕ) (why : FaultKind) : Type 0 where
@@ -49,22 +49,22 @@ pub record PairFault (s : Schema) (trees : List Tree) (rule : Pair) (p q : ℕ) 
   pub right : Dependency
   pub first_at : IsTreeAt trees p first
   pub second_at : IsTreeAt trees q second
-  pub first_proves : Proves s first left
-  pub second_proves : Proves s second right
+  pub first_proves : Proves (theory_in s) first left
+  pub second_proves : Proves (theory_in s) second right
   pub refused : pair_conclusion rule left right ≡ Err why
 
 -- no dependency has number 0, and else the table refuses one that the schema does not have
 abbrev pub GivenFault : Schema → ℕ → FaultKind → Type 0
 GivenFault s k why = ((k ≡ 0) × (why ≡ NoSuchGiven))
-    ⊎ ((i : ℕ) × (k ≡ i + 1) × (leaf_conclusion s (given i) ≡ Err why))
+    ⊎ ((i : ℕ) × (k ≡ i + 1) × (leaf_conclusion (theory_in s) (given i) ≡ Err why))
 
 -- the rule table refuses the node of a line, and why
 abbrev pub NodeFault : Schema → List Tree → Line → Body → FaultKind → Type 0
 NodeFault s trees l (by_given k) why = GivenFault s k why
 NodeFault s trees l by_reflexivity why =
-    leaf_conclusion s (reflexivity (left_of l.stated) (right_of l.stated)) ≡ Err why
+    leaf_conclusion (theory_in s) (reflexivity (left_of l.stated) (right_of l.stated)) ≡ Err why
 NodeFault s trees l by_mreflexivity why =
-    leaf_conclusion s (mreflexivity (left_of l.stated) (right_of l.stated)) ≡ Err why
+    leaf_conclusion (theory_in s) (mreflexivity (left_of l.stated) (right_of l.stated)) ≡ Err why
 NodeFault s trees l (by_step rule p) why = StepFault s trees rule p why
 NodeFault s trees l (by_pair rule p q) why = PairFault s trees rule p q why
 
@@ -78,7 +78,7 @@ pub record IsTooDeep (trees : List Tree) (l : Line) : Type 0 where
 pub record StatesOther (s : Schema) (trees : List Tree) (l : Line) (concluded : Dependency) : Type 0 where
   pub tree : Tree
   pub is : IsTreeOf trees l l.body tree
-  pub proves : Proves s tree concluded
+  pub proves : Proves (theory_in s) tree concluded
   pub other : l.stated ≡ concluded → ⊥
 
 -- ---- what is wrong, and what comes first

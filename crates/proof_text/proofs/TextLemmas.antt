@@ -1,7 +1,7 @@
 -- Reading a certificate line by line.
 use Rattle.std.proofs.Common.{◌≡◌, ◌≤◌, ◌+◌, ℕ, Bool, List, length, Option, Some, None}
 use denote.Ref.{Bor}
-use Rattle.dep_model.specs.declared.schema.Schema.{Schema}
+use Rattle.schema_model.specs.Schemas.{Schema}
 use Rattle.lexer.specs.Lines.{line_texts, CutsLine}
 use Rattle.proof_text.specs.declared.text.TheConstants.{MOST_PROOF_BYTES}
 use Rattle.proof_grammar.specs.CheckerStates.{CheckerStateValue}

@@ -6,14 +6,15 @@ ghost use Rattle.proof_text.specs.Outcomes.{concluded_outcome};
 ghost use Rattle.proof_text.specs.Views.{opened_of, opened_all, line_of, body_of};
 ghost use Rattle.attr_sets.specs.Attributes.{Attributes};
 ghost use Rattle.dep_model.specs.Failures.{RefusesAs};
-ghost use Rattle.dep_model.specs.Schemas.{universe_of};
+ghost use Rattle.schema_model.specs.Schemas.{universe_of};
 ghost use Rattle.proof_grammar.specs.Diagnostics.{IsFound, IsFoundAt, IsRefusalWithin};
 
 use crate::line::{Body, Line};
 use crate::node::{Concluded, Open, given_dependency, leaf, pair, same_dependency, step};
-use dep_model::{Dep, Failure, OutOfMemory, Schema, sides};
+use dep_model::{Dep, Failure, OutOfMemory, sides};
 use derivation::{Deriv, Fault, FaultKind, LeafRule, MOST_LEVELS, MOST_NODES, PairRule, StepRule};
 use proof_grammar::{ProofRefusal, ProofRefusalKind};
+use schema_model::Schema;
 use std::alloc::Global;
 
 /// The certificate lines that are read: in which line of the text each stands, and its derivation until

@@ -7,15 +7,17 @@ ghost use Rattle.proof_grammar.specs.Diagnostics.{IsFound};
 ghost use Rattle.attr_sets.specs.Sets.{attributes, is_same};
 ghost use Rattle.derivation.specs.Trees.{leaf, step, pair};
 ghost use Rattle.proof_grammar.specs.Nodes.{with_tree, given_outcome, same_dependency};
+ghost use Rattle.schema_model.specs.Schemas.{theory_in};
 ghost use Rattle.proof_text.specs.Outcomes.{concluded_outcome};
 
 use crate::line::{Body, Line};
 use attr_sets::AttrSet;
-use dep_model::{Dep, Schema};
+use dep_model::Dep;
 use derivation::{
     Deriv, Fault, FaultKind, LeafRule, PairRule, StepRule, leaf_conclusion, pair_conclusion,
     step_conclusion,
 };
+use schema_model::Schema;
 use std::alloc::Global;
 
 /// A line's derivation that no later line used.
@@ -74,9 +76,9 @@ fn same_sides(a: Dep, b: Dep) -> bool
 /// A leaf, where its rule applies.
 pub fn leaf(schema: &Schema, rule: LeafRule) -> Result<(Deriv, Dep), FaultKind>
     ensures exact { concluded_outcome result
-        ≡ with_tree (leaf (leaf_of rule)) (leaf_conclusion schema.now (leaf_of rule)) }
+        ≡ with_tree (leaf (leaf_of rule)) (leaf_conclusion (theory_in schema.now) (leaf_of rule)) }
 {
-    match leaf_conclusion(schema, rule) {
+    match leaf_conclusion(&schema.theory(), rule) {
         Ok(dep) => Ok((Deriv::Leaf(rule), dep)),
         Err(kind) => Err(kind),
     }
@@ -96,9 +98,9 @@ pub fn given_dependency(schema: &Schema, k: u32) -> Result<(Deriv, Dep), FaultKi
 pub fn step(schema: &Schema, rule: StepRule, premise: Open) -> Result<(Deriv, Dep), FaultKind>
     ensures exact { concluded_outcome result
         ≡ with_tree (step (step_of rule) (tree_of premise.deriv.value))
-        (step_conclusion schema.now (step_of rule) (dependency_of premise.dep)) }
+        (step_conclusion (theory_in schema.now) (step_of rule) (dependency_of premise.dep)) }
 {
-    match step_conclusion(schema, rule, premise.dep) {
+    match step_conclusion(&schema.theory(), rule, premise.dep) {
         Ok(dep) => Ok((Deriv::Step(rule, premise.deriv), dep)),
         Err(kind) => Err(kind),
     }

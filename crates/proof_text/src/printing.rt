@@ -3,7 +3,7 @@ ghost use Rattle.attr_sets.specs.Attributes.{IsSubset};
 ghost use Rattle.attr_sets.specs.Sets.{attributes};
 ghost use Rattle.dep_model.specs.Dependencies.{Dependency};
 ghost use Rattle.dep_model.specs.Deps.{dependency_of, IsDepWithin};
-ghost use Rattle.dep_model.specs.Schemas.{universe_of};
+ghost use Rattle.schema_model.specs.Schemas.{universe_of, theory_in};
 ghost use Rattle.schema_printer.specs.Spelling.{printed_names_of};
 ghost use Rattle.derivation.specs.Trees.{nodes, depth};
 ghost use Rattle.derivation.specs.Derivs.{tree_of, leaf_of, step_of, pair_of};
@@ -16,11 +16,12 @@ ghost use Rattle.proof_grammar.specs.Printing.{step_word, sides_text, pair_word,
 use crate::line::{Body, Line};
 use attr_sets::AttrSet;
 use byte_texts::{add, add_number};
-use dep_model::{Dep, OutOfMemory, Schema};
+use dep_model::{Dep, OutOfMemory};
 use derivation::{
     Deriv, LeafRule, MOST_LEVELS, MOST_NODES, PairRule, StepRule, leaf_conclusion, pair_conclusion,
     step_conclusion,
 };
+use schema_model::Schema;
 use schema_printer::{add_dep, add_set};
 use std::alloc::Global;
 
@@ -53,7 +54,7 @@ fn add_lines(
         ≡ text.old.items ++ certificate_lines_text (printed_names_of schema.now)
         (node_lines_after schema.now printed.old (tree_of deriv.now))) }
     ensures printed { OnOk result (printed.new ≡ printed.old + nodes (tree_of deriv.now)) }
-    ensures proves { IfOk result (λ d. Proves schema.now (tree_of deriv.now) (dependency_of d)) }
+    ensures proves { IfOk result (λ d. Proves (theory_in schema.now) (tree_of deriv.now) (dependency_of d)) }
 {
     match deriv {
         Deriv::Leaf(rule) => {
@@ -108,10 +109,10 @@ fn add_node(
 
 // What a node without premises states.
 fn stated_by_leaf(schema: &Schema, rule: LeafRule) -> Dep
-    requires concludes { (d : Dependency) × (leaf_conclusion schema.now (leaf_of rule) ≡ Ok d) }
-    ensures stated { leaf_conclusion schema.now (leaf_of rule) ≡ Ok (dependency_of result) }
+    requires concludes { (d : Dependency) × (leaf_conclusion (theory_in schema.now) (leaf_of rule) ≡ Ok d) }
+    ensures stated { leaf_conclusion (theory_in schema.now) (leaf_of rule) ≡ Ok (dependency_of result) }
 {
-    match leaf_conclusion(schema, rule) {
+    match leaf_conclusion(&schema.theory(), rule) {
         Ok(stated) => stated,
         Err(_) => unreachable!(),
     }
@@ -119,12 +120,12 @@ fn stated_by_leaf(schema: &Schema, rule: LeafRule) -> Dep
 
 // What a node with one premise states.
 fn stated_by_step(schema: &Schema, rule: StepRule, from: Dep) -> Dep
-    requires concludes { (d : Dependency) × (step_conclusion schema.now (step_of rule)
+    requires concludes { (d : Dependency) × (step_conclusion (theory_in schema.now) (step_of rule)
         (dependency_of from) ≡ Ok d) }
-    ensures stated { step_conclusion schema.now (step_of rule) (dependency_of from)
+    ensures stated { step_conclusion (theory_in schema.now) (step_of rule) (dependency_of from)
         ≡ Ok (dependency_of result) }
 {
-    match step_conclusion(schema, rule, from) {
+    match step_conclusion(&schema.theory(), rule, from) {
         Ok(stated) => stated,
         Err(_) => unreachable!(),
     }

@@ -3,7 +3,7 @@ ghost use Rattle.std.specs.Prelude.{◌≡◌, ◌+◌, ◌<◌, ◌≤◌, ◌^
 ghost use Rattle.tokens.specs.Views.{rest_of};
 ghost use Rattle.derivation.specs.Derivs.{tree_of};
 ghost use Rattle.dep_model.specs.Failures.{RefusesAs};
-ghost use Rattle.dep_model.specs.Schemas.{universe_of};
+ghost use Rattle.schema_model.specs.Schemas.{universe_of, theory_in};
 ghost use Rattle.proof_grammar.specs.ValidStates.{IsCheckerState};
 ghost use Rattle.proof_text.specs.Views.{checker_state_of};
 ghost use Rattle.dep_model.specs.Deps.{dependency_of, IsDepWithin};
@@ -17,9 +17,10 @@ ghost use Rattle.proof_grammar.specs.Texts.{is_yes, is_blank_from, read_one};
 use crate::checker_state::CheckerState;
 use crate::line::read_line;
 use crate::node::Concluded;
-use dep_model::{Failure, Schema};
+use dep_model::Failure;
 use lexer::{Mode, TokenKind, Word, cut_line, without_mark};
 use proof_grammar::{ProofRefusal, ProofRefusalKind};
+use schema_model::Schema;
 use std::alloc::Global;
 use tokens::{Cursor, Guide, Names, NextToken};
 
@@ -37,7 +38,7 @@ pub fn read_concluded(
     requires { length text.now ≤ MOST_PROOF_BYTES }
     ensures ok { IfOk result (λ read. SpellsWithin schema.now text.now (tree_of read.deriv.value)) }
     ensures concludes { IfOk result
-        (λ read. Proves schema.now (tree_of read.deriv.value) (dependency_of read.dep)) }
+        (λ read. Proves (theory_in schema.now) (tree_of read.deriv.value) (dependency_of read.dep)) }
     // It proves a dependency, within the limits of a certificate.
     ensures checked { IfOk result (λ read. IsChecked schema.now (tree_of read.deriv.value)) }
     ensures dep { IfOk result (λ read. IsDepWithin (universe_of schema.now) read.dep) }

@@ -1,8 +1,8 @@
-ghost use Rattle.lexer.specs.Tokens.{bytes_of};
+ghost use Rattle.lexer.specs.Tokens.{bytes_of, is_colon};
 ghost use Rattle.std.specs.Prelude.{◌≡◌, IfOk, IfErr, Ok, Err};
 ghost use Rattle.tokens.specs.Views.{rest_of};
 ghost use Rattle.proof_grammar.specs.Readers.{colon, with_word, rule_name};
-ghost use Rattle.proof_grammar.specs.Tokens.{is_colon, is_with, rule_named, rule_word};
+ghost use Rattle.proof_grammar.specs.Tokens.{is_with, rule_named, rule_word};
 
 use lexer::{TokenKind, Word};
 use proof_grammar::RuleName;

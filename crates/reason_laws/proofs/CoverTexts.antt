@@ -1,13 +1,13 @@
 -- The lines of the reasons of a cover, and of the schema below them.
-use Rattle.std.proofs.Common.{◌≡◌, ◌<◌, ◌^◌, ℕ, true, false, List, ◌++◌, refl, sym, ap, subst}
+use Rattle.std.proofs.Common.{◌≡◌, ℕ, true, false, List, ◌++◌, refl, sym, ap, subst}
 use Rattle.std.specs.Prelude.{All, codes, slice_get}
 use Rattle.attr_sets.specs.Attributes.{difference, only}
 use Rattle.cover_accounts.specs.Steps.{Placed, Shortened}
-use Rattle.dep_model.specs.Names.{IsName}
+use Rattle.schema_model.specs.Names.{IsName}
 use Rattle.dep_model.specs.Projections.{members_below}
-use Rattle.dep_model.specs.Schemas.{lines_of, names_of, width_of}
-use Rattle.dep_model.specs.declared.schema.Schema.{Schema}
-use Rattle.dep_model.proofs.PlainLemmas.{IsPlain, plain_both}
+use Rattle.schema_model.specs.Schemas.{lines_of, names_of, width_of}
+use Rattle.schema_model.specs.Schemas.{Schema}
+use Rattle.schema_model.proofs.PlainLemmas.{IsPlain, plain_both}
 use Rattle.schema_printer.specs.Printing.{dependency_text, set_text}
 use Rattle.schema_printer.specs.Spelling.{printed_names_of}
 use Rattle.desk_covers.specs.CoverReasons.{AreCoverReasons, ExplainsCover, all_gone_text, gone_text, member_before, member_text, members_text, needless_text, placed_text}
@@ -18,9 +18,10 @@ use Rattle.desk_responses.specs.declared.status.Status.TheVariants.{Yes}
 use Rattle.reason_laws.specs.ReasonLines.{LeavesAnswer}
 use Rattle.reason_laws.proofs.LineLemmas.{AreLines, both_lines, each_lines, leaves_answer, one_line}
 use Rattle.reason_laws.proofs.NameTexts.{IsPrinted, dependency_plain, names_printed, set_plain}
-use Rattle.reason_laws.proofs.SchemaTexts.{number_plain, schema_own}
+use Rattle.reason_laws.proofs.NumberTexts.{number_plain}
+use Rattle.reason_laws.proofs.SchemaTexts.{schema_own}
 
-module _ (s : Schema) (are_names : All IsName (names_of s)) (low : All (λ at. at < 2 ^ 32) (lines_of s)) where
+module _ (s : Schema) (are_names : All IsName (names_of s)) where
   printed : All IsPrinted (printed_names_of s)
   printed = names_printed s are_names
 
@@ -30,7 +31,7 @@ module _ (s : Schema) (are_names : All IsName (names_of s)) (low : All (λ at. a
       let at = codes "# line " ++ number in
       let front = at ++ codes ": " in
       let dependency = dependency_text (printed_names_of s) p.dependency in
-      plain_both front dependency (plain_both at (codes ": ") (plain_both (codes "# line ") number refl (number_plain (lines_of s) low p.position)) refl)
+      plain_both front dependency (plain_both at (codes ": ") (plain_both (codes "# line ") number refl (number_plain (slice_get (lines_of s) p.position))) refl)
       (dependency_plain (printed_names_of s) p.dependency printed)
 
   needless_told : (m : Shortened) (a : ℕ) → AreLines true (needless_text s m a)

@@ -1,5 +1,6 @@
 mod LineLemmas
-mod NameTexts
+pub mod NameTexts
+pub mod NumberTexts
 mod SchemaTexts
 mod CoverTexts
 mod ReasonTexts

@@ -4,7 +4,7 @@ use Rattle.std.specs.Prelude.{All, filter, not}
 use Rattle.std.specs.List.{flat_map}
 use Rattle.std.proofs.lemmas.List.Elements.{All-nil, All-cons, All-head, All-tail, All-append}
 use Rattle.std.proofs.lemmas.Grind.{flat_map-append}
-use Rattle.dep_model.proofs.PlainLemmas.{IsPlain}
+use Rattle.schema_model.proofs.PlainLemmas.{IsPlain}
 use Rattle.schema_printer.specs.Printing.{lines_text}
 use Rattle.desk_texts.specs.Texts.{line}
 use Rattle.desk_responses.specs.Reasons.{Explained}

@@ -8,14 +8,14 @@ use Rattle.std.proofs.lemmas.Bool.{cases_Bool, and_parts, true≢false}
 use Rattle.std.proofs.lemmas.Bool.Decides.{nat_tests}
 use Rattle.std.proofs.lemmas.List.Elements.{All-nil, All-cons, All-head, All-tail}
 use Rattle.attr_sets.specs.Attributes.{Attributes}
-use Rattle.dep_model.specs.declared.name.TheConstants.{MOST_BARE_NAME_BYTES}
-use Rattle.dep_model.specs.declared.naming.Naming.{Naming}
-use Rattle.dep_model.specs.declared.naming.Naming.TheVariants.{Bare, Any}
-use Rattle.dep_model.specs.declared.schema.Schema.{Schema}
+use Rattle.schema_model.specs.declared.name.TheConstants.{MOST_BARE_NAME_BYTES}
+use Rattle.schema_model.specs.declared.naming.Naming.{Naming}
+use Rattle.schema_model.specs.declared.naming.Naming.TheVariants.{Bare, Any}
+use Rattle.schema_model.specs.Schemas.{Schema}
 use Rattle.dep_model.specs.Dependencies.{Dependency, fd, mvd}
-use Rattle.dep_model.specs.Names.{IsName, is_bare_name, is_name_byte, is_word, quoted, quotes_doubled}
-use Rattle.dep_model.specs.Schemas.{naming_of, names_of}
-use Rattle.dep_model.proofs.PlainLemmas.{IsPlain, name_plain, plain_both, quoted_plain}
+use Rattle.schema_model.specs.Names.{IsName, is_bare_name, is_name_byte, is_word, quoted, quotes_doubled}
+use Rattle.schema_model.specs.Schemas.{naming_of, names_of}
+use Rattle.schema_model.proofs.PlainLemmas.{IsPlain, name_plain, plain_both, quoted_plain}
 use Rattle.schema_printer.specs.Printing.{dependency_text, members_from, set_text, side_text, words_text}
 use Rattle.schema_printer.specs.Spelling.{is_schema_word, printed_names_of, spelling}
 use Rattle.reason_laws.specs.ReasonLines.{is_reason}

@@ -7,11 +7,11 @@ use Rattle.attr_sets.specs.Attributes.{Attributes, difference, union}
 use Rattle.attr_sets.specs.Sets.{attributes}
 use Rattle.attr_sets.specs.declared.set.AttrSet.{AttrSet}
 use Rattle.dep_model.specs.Dependencies.{Dependency}
-use Rattle.dep_model.specs.Names.{IsName}
+use Rattle.schema_model.specs.Names.{IsName}
 use Rattle.dep_model.specs.Plans.{schemes_of}
-use Rattle.dep_model.specs.Schemas.{names_of}
-use Rattle.dep_model.specs.declared.schema.Schema.{Schema}
-use Rattle.dep_model.proofs.PlainLemmas.{IsPlain, plain_both}
+use Rattle.schema_model.specs.Schemas.{names_of}
+use Rattle.schema_model.specs.Schemas.{Schema}
+use Rattle.schema_model.proofs.PlainLemmas.{IsPlain, plain_both}
 use Rattle.dep_model.specs.declared.form.Form.{Form}
 use Rattle.dep_model.specs.declared.form.Form.TheVariants.{Third, Bcnf, Fourth}
 use Rattle.plans.specs.Containing.{lies_within, without_contained}

@@ -1,68 +1,26 @@
 -- The lines of a printed schema, none of which begins with `# `, and of the reasons of a cover.
-use Rattle.std.proofs.Common.{◌≡◌, ◌<◌, ◌≤◌, ◌^◌, ◌||◌, ℕ, Bool, true, false, List, [], ◌∷◌, ◌++◌, map, refl, ap, subst, ◌∙◌, append_assoc, inl, inr, arith, Some, None}
-use Rattle.std.specs.Prelude.{All, Option, codes, slice_get, ◌==◌}
-use Rattle.std.specs.Fmt.{decimal}
-use Rattle.std.specs.Char.{is_ascii_digit}
-use Rattle.std.specs.List.{list_all, list_any}
-use Rattle.std.proofs.lemmas.Bool.{cases_Bool, and_parts}
-use Rattle.std.proofs.lemmas.Bool.Decides.{nat_tests}
-use Rattle.std.proofs.lemmas.Fmt.{digits_decimal}
-use Rattle.std.proofs.lemmas.Option.{get_or_from_slice_get, slice_get_within}
+use Rattle.std.proofs.Common.{◌≡◌, ℕ, Bool, true, false, List, [], ◌∷◌, ◌++◌, map, refl, ap, ◌∙◌, append_assoc, inl, inr}
+use Rattle.std.specs.Prelude.{All, codes}
+use Rattle.std.specs.List.{list_any}
+use Rattle.std.proofs.lemmas.Bool.{cases_Bool}
 use Rattle.std.proofs.lemmas.List.Elements.{All-nil, All-cons, All-head, All-tail, All-append}
 use Rattle.attr_sets.specs.Attributes.{Attributes}
-use Rattle.dep_model.specs.Columns.{is_column_type}
+use Rattle.schema_model.specs.Columns.{is_column_type}
 use Rattle.dep_model.specs.Dependencies.{Dependency, fd, mvd}
-use Rattle.dep_model.specs.Names.{IsName, quoted}
-use Rattle.dep_model.specs.Schemas.{naming_of, names_of, nullable_of, types_of}
-use Rattle.dep_model.specs.declared.column_type.ColumnType.{ColumnType}
-use Rattle.dep_model.specs.declared.column_type.ColumnType.TheVariants.{Text, Integer, Date, Timestamp, Decimal, Uuid, Other}
-use Rattle.dep_model.specs.declared.column_type.TheConstants.{MOST_SCALE}
-use Rattle.dep_model.specs.declared.naming.Naming.{Naming}
-use Rattle.dep_model.specs.declared.naming.Naming.TheVariants.{Bare, Any}
-use Rattle.dep_model.specs.declared.schema.Schema.{Schema}
-use Rattle.dep_model.proofs.NumeralLemmas.{decimal_numeral_model}
-use Rattle.dep_model.proofs.NameLemmas.{type_text_is_name}
-use Rattle.dep_model.proofs.PlainLemmas.{IsPlain, name_plain, plain_both, quoted_plain}
+use Rattle.schema_model.specs.Names.{IsName}
+use Rattle.schema_model.specs.Schemas.{naming_of, names_of, nullable_of, types_of}
+use Rattle.schema_model.specs.declared.column_type.ColumnType.{ColumnType}
+use Rattle.schema_model.specs.declared.column_type.ColumnType.TheVariants.{Text, Integer, Date, Timestamp, Decimal, Uuid, Other}
+use Rattle.schema_model.specs.declared.naming.Naming.{Naming}
+use Rattle.schema_model.specs.declared.naming.Naming.TheVariants.{Bare, Any}
+use Rattle.schema_model.specs.Schemas.{Schema}
+use Rattle.schema_model.proofs.PlainLemmas.{IsPlain, plain_both}
 use Rattle.schema_printer.specs.Printing.{Run, declaring_lines, dependency_text, in_front, is_integer, lines_text, members_from, nullable_lines, run_line, runs_of, same_column, schema_lines, schema_text, set_text, side_text, type_word, words_text}
 use Rattle.schema_printer.specs.Spelling.{printed_names_of}
-use Rattle.desk_responses.specs.Lines.{line_number_text}
-use Rattle.reason_laws.specs.ReasonLines.{has_line_feed, is_reason}
+use Rattle.reason_laws.specs.ReasonLines.{is_reason}
 use Rattle.reason_laws.proofs.LineLemmas.{AreLines}
 use Rattle.reason_laws.proofs.NameTexts.{IsPrinted, dependency_plain, members_printed, names_printed, set_own, side_plain, words_plain}
-
--- ---- numbers
-digits_plain : (bytes : List ℕ) → list_all is_ascii_digit bytes ≡ true → IsPlain bytes
-digits_plain [] all = refl
-digits_plain (b ∷ bytes) all =
-    let parts = and_parts (is_ascii_digit b) (list_all is_ascii_digit bytes) all in
-    let digit = parts.0 in
-    let this : (b == 10) ≡ false = grind (arith, nat_tests, digit) in
-    ap (λ (t : Bool). t || has_line_feed bytes) this ∙ digits_plain bytes parts.1
-
-decimal_plain : (n : ℕ) → n < 2 ^ 64 → IsPlain (decimal n)
-decimal_plain n low = digits_plain (decimal n) (digits_decimal decimal_numeral_model n low)
-
-pub number_plain : (lines : List ℕ) → All (λ at. at < 2 ^ 32) lines → (k : ℕ) → IsPlain (line_number_text (slice_get lines k))
-number_plain lines low k = of (slice_get lines k) refl
-  where
-    of : (found : Option ℕ) → slice_get lines k ≡ found → IsPlain (line_number_text found)
-    of None is = refl
-    of (Some at) is =
-        let here : at < 2 ^ 32 = subst (λ (n : ℕ). n < 2 ^ 32) (get_or_from_slice_get lines k at 0 is) (low k 0 (slice_get_within lines k at is)) in
-        decimal_plain at (omega (arith, here))
-
--- ---- types of columns
-type_plain : (column : ColumnType) → is_column_type column ≡ true → IsPlain (type_word column)
-type_plain Text is = refl
-type_plain Integer is = refl
-type_plain Date is = refl
-type_plain Timestamp is = refl
-type_plain (Decimal scale) is =
-    let most : scale ≤ MOST_SCALE = grind (arith, nat_tests, is) in
-    plain_both (codes "decimal ") (decimal scale) refl (decimal_plain scale (omega (arith, most)))
-type_plain Uuid is = refl
-type_plain (Other text) is =
-    plain_both (codes "other ") (quoted text) refl (quoted_plain text (name_plain text (type_text_is_name text is)))
+use Rattle.reason_laws.proofs.NumberTexts.{type_plain}
 
 -- ---- lines of the command's own
 record IsOwn (text : List ℕ) : Type 0 where

@@ -1,10 +1,10 @@
 //! What is left of an explanation without its reasons. A function that does nothing, whose clauses are
 //! the law.
 
-ghost use Rattle.std.specs.Prelude.{◌<◌, ◌^◌, All};
-ghost use Rattle.dep_model.specs.Names.{IsName};
-ghost use Rattle.dep_model.specs.Schemas.{lines_of, names_of};
-ghost use Rattle.dep_model.specs.declared.schema.Schema.{Schema};
+ghost use Rattle.std.specs.Prelude.{All};
+ghost use Rattle.schema_model.specs.Names.{IsName};
+ghost use Rattle.schema_model.specs.Schemas.{names_of};
+ghost use Rattle.schema_model.specs.Schemas.{Schema};
 ghost use Rattle.dep_model.specs.declared.form.Form.{Form};
 ghost use Rattle.desk_covers.specs.CoverReasons.{ExplainsCover};
 ghost use Rattle.desk_covers.specs.Covering.{GivesCover};
@@ -20,7 +20,6 @@ ghost use Rattle.reason_laws.specs.ReasonLines.{LeavesAnswer};
 /// Without the lines that begin with `# ` an explanation is what the command prints.
 pub fn explanations_leave_the_answer()
     ensures cover { (schema : Schema) (response : ResponseValue) → All IsName (names_of schema)
-        → All (λ at. at < 2 ^ 32) (lines_of schema)
         → ExplainsCover schema response → LeavesAnswer (GivesCover schema) response }
     ensures keys { (schema : Schema) (response : ResponseValue) → All IsName (names_of schema)
         → ExplainsKeys schema response → LeavesAnswer (ListsKeys schema) response }

@@ -28,7 +28,7 @@ use Rattle.row_measures.specs.Laws.{IsRemoved}
 use Rattle.row_measures.specs.Sorted.{Classes}
 use Rattle.row_measures.specs.declared.breach.BrokenPart.{BrokenPart}
 use Rattle.row_measures.specs.declared.breach.BrokenRow.{BrokenRow}
-use Rattle.row_measures.specs.declared.breach.Mark.TheVariants as mark
+use Rattle.row_measures.specs.declared.breach.RowMark.TheVariants as mark
 use Rattle.row_measures.specs.declared.breach.Measure.{Measure}
 use Rattle.row_measures.proofs.UniqueLemmas.{same_of_classes, same_of_parts}
 

@@ -7,6 +7,7 @@ use Rattle.attr_sets.proofs.AttributesLemmas.{tell_member, count_below-differenc
 use Rattle.row_groups.specs.Numberings.{AreFirsts, AreGroups, number_at}
 use Rattle.dep_model.specs.Tuples.{Relation, AgreeOn}
 use Rattle.dep_model.proofs.TwoRowLemmas.{AgreeOn-left}
+use Rattle.dep_model.specs.Dependencies.{rest_beside}
 use Rattle.legality.specs.Parts.{ArePartCounts, flag_at, part_count}
 use Rattle.legality.proofs.CountLemmas.{count_below-injection}
 use Rattle.legality.proofs.PartLemmas.{Grouping, rest_within, agree_all}
@@ -15,7 +16,6 @@ use Rattle.removal_laws.proofs.CountLemmas.{total-same}
 use Rattle.row_store.specs.Rows.{row_at}
 use Rattle.row_measures.specs.Broken.{AreFlags, LacksRow, is_absent, lacks, missing_pairs}
 use Rattle.row_measures.specs.ByPart.{AreShort, shortage}
-use Rattle.row_measures.specs.Sorted.{rest_of}
 
 number_of : (r : Relation) (x : Attributes) (numbers : List ℕ) (i j : ℕ) → AreGroups r x numbers → i < length r → j < length r
     → AgreeOn x (row_at r i) (row_at r j) → number_at numbers i ≡ number_at numbers j
@@ -70,7 +70,7 @@ module _ (n : ℕ) (r : Relation) (x y : Attributes) (g fg l fl z fz a fa : List
 
   group_of_rest : (i j : ℕ) → i < length r → j < length r → number_at z i ≡ number_at z j → number_at g i ≡ number_at g j
   group_of_rest i j i_in j_in same =
-      number_of r x g i j k.left i_in j_in (AgreeOn-left x (rest_of n x y) _ _ (agree_of r (union x (rest_of n x y)) z i j k.rest i_in j_in same))
+      number_of r x g i j k.left i_in j_in (AgreeOn-left x (rest_beside (below n) x y) _ _ (agree_of r (union x (rest_beside (below n) x y)) z i j k.rest i_in j_in same))
 
   not_absent : (p q v : ℕ) → v < length r → number_at l v ≡ p → number_at z v ≡ q → is_absent l z p q ≡ false
   not_absent p q v v_in left right = stands_beside l z p q v (omega (arith, v_in, k.both.one_each)) left right
@@ -104,11 +104,11 @@ module _ (n : ℕ) (r : Relation) (x y : Attributes) (g fg l fl z fz a fa : List
       let w_in = first_in a fa k.all_firsts k.all.one_each h h_in in
       let same : AgreeOn (below n) (row_at r (number_at fa h)) (row_at r v) = agree_of r (below n) a (number_at fa h) v k.all w_in v_in (k.all_firsts.number h h_in) in
       let both_in = union_within n x y k.x_within k.y_within in
-      let rest_in = union_within n x (rest_of n x y) k.x_within (rest_within n x y) in (
+      let rest_in = union_within n x (rest_beside (below n) x y) k.x_within (rest_within n x y) in (
         h,
         h_in,
         eq-eqb _ _ (number_of r (union x y) l (number_at fa h) v k.both w_in v_in (λ m has. same m (both_in m has)) ∙ left),
-        number_of r (union x (rest_of n x y)) z (number_at fa h) v k.rest w_in v_in (λ m has. same m (rest_in m has)) ∙ right,
+        number_of r (union x (rest_beside (below n) x y)) z (number_at fa h) v k.rest w_in v_in (λ m has. same m (rest_in m has)) ∙ right,
       )
 
   rest_of_row : (p h : ℕ) → p < length fl → h < length fa → (number_at l (number_at fa h) == p) ≡ true
@@ -131,7 +131,7 @@ module _ (n : ℕ) (r : Relation) (x y : Attributes) (g fg l fl z fz a fa : List
       let v_in = first_in a fa k.all_firsts k.all.one_each h h_in in
       let w_in = first_in a fa k.all_firsts k.all.one_each m m_in in
       let alike = agree_all n x y _ _ (agree_of r (union x y) l _ _ k.both v_in w_in (eqb-true _ _ left ∙ sym (eqb-true _ _ other)))
-      (agree_of r (union x (rest_of n x y)) z _ _ k.rest v_in w_in same) in
+      (agree_of r (union x (rest_beside (below n) x y)) z _ _ k.rest v_in w_in same) in
       sym (k.all_firsts.number h h_in) ∙ number_of r (below n) a _ _ k.all v_in w_in alike ∙ k.all_firsts.number m m_in
 
   present_rests : (p : ℕ) → p < length fl → part_count l fa p ≡ count_below (stands p) (length fz)

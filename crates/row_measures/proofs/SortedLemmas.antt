@@ -13,8 +13,8 @@ use Rattle.row_measures.specs.ByClass.{AreSorted}
 use Rattle.row_measures.specs.ByPart.{ArePartsSorted, group_by, group_row_by}
 use Rattle.row_measures.specs.declared.breach.BrokenPart.{BrokenPart}
 use Rattle.row_measures.specs.declared.breach.BrokenRow.{BrokenRow}
-use Rattle.row_measures.specs.declared.breach.Mark.{Mark}
-use Rattle.row_measures.specs.declared.breach.Mark.TheVariants as mark
+use Rattle.row_measures.specs.declared.breach.RowMark.{RowMark}
+use Rattle.row_measures.specs.declared.breach.RowMark.TheVariants as mark
 use Rattle.row_measures.specs.declared.breach.Measure.{Measure}
 use Rattle.row_measures.specs.declared.by_class.ByClass.{ByClass}
 use Rattle.row_measures.specs.declared.by_part.ByPart.{ByPart}
@@ -69,10 +69,10 @@ group_parts_are n x y r s are =
     ∙ ap (by are.parts.groups are.parts.firsts) are.broken
 
 -- ---- what is listed
-pub part_is : (g h r s f k : ℕ) (m p : Mark) → g ≡ h → r ≡ s → f ≡ k → m ≡ p
+pub part_is : (g h r s f k : ℕ) (m p : RowMark) → g ≡ h → r ≡ s → f ≡ k → m ≡ p
     → ◌≡◌ {A = BrokenPart} (record { group = g; rows = r; first = f; mark = m }) (record { group = h; rows = s; first = k; mark = p })
 part_is g h r s f k m p a b d e = cc
 
-pub row_is : (g h i : ℕ) (m p : Mark) → g ≡ h → m ≡ p
+pub row_is : (g h i : ℕ) (m p : RowMark) → g ≡ h → m ≡ p
     → ◌≡◌ {A = BrokenRow} (record { group = g; row = i; mark = m }) (record { group = h; row = i; mark = p })
 row_is g h i m p a e = cc

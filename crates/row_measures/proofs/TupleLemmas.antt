@@ -15,13 +15,14 @@ use Rattle.dep_model.proofs.ListLemmas.{Contains-map}
 use Rattle.attr_sets.proofs.AttributesLemmas.{count_below-before_member}
 use Rattle.dep_model.proofs.SchemeLemmas.{length-members_below, members_below-at}
 use Rattle.dep_model.proofs.TupleLemmas.{IsOver-length}
+use Rattle.dep_model.specs.Dependencies.{rest_beside}
 use Rattle.legality.proofs.PairLemmas.{member_of}
 use Rattle.removal_laws.specs.Counts.{total}
 use Rattle.removal_laws.proofs.CountLemmas.{total-same}
 use Rattle.row_store.specs.Rows.{row_at}
 use Rattle.row_measures.specs.Broken.{is_absent, lacks, missing_pairs}
 use Rattle.row_measures.specs.Laws.{AreMissing, IsMissing, IsOnce}
-use Rattle.row_measures.specs.Sorted.{Parts, rest_of}
+use Rattle.row_measures.specs.Sorted.{Parts}
 use Rattle.row_measures.proofs.MissingLemmas.{none_beside, stands_beside}
 
 -- ---- lists in which no tuple stands twice
@@ -203,7 +204,7 @@ module _ (n : ℕ) (x y : Attributes) (r : Relation) (p : Parts n x y r) (over :
   agree_left : (a b : ℕ) → AgreeOn (union x y) (joined a b) (left_row a)
   agree_left a b k has = joined_at a b k (low_in k has) ∙ ap (λ (c : Bool). if c then value_at (left_row a) k else value_at (rest_row b) k) has
 
-  agree_rest : (a b : ℕ) → a < lefts → b < rests → lacked a b ≡ true → AgreeOn (union x (rest_of n x y)) (joined a b) (rest_row b)
+  agree_rest : (a b : ℕ) → a < lefts → b < rests → lacked a b ≡ true → AgreeOn (union x (rest_beside (below n) x y)) (joined a b) (rest_row b)
   agree_rest a b a_in b_in is k has = ⊎_elim
       (λ (inside : union x y k ≡ true).
       let of_x : x k ≡ true = grind (arith, has, inside) in
@@ -238,7 +239,7 @@ module _ (n : ℕ) (x y : Attributes) (r : Relation) (p : Parts n x y r) (over :
   }
 
   -- ---- a missing tuple is that of a pair that lacks
-  module _ (t : Tuple) (m : IsMissing n x y r t) (i j : ℕ) (i_in : i < length r) (j_in : j < length r) (left : AgreeOn (union x y) t (row_at r i)) (rest : AgreeOn (union x (rest_of n x y)) t (row_at r j)) where
+  module _ (t : Tuple) (m : IsMissing n x y r t) (i j : ℕ) (i_in : i < length r) (j_in : j < length r) (left : AgreeOn (union x y) t (row_at r i)) (rest : AgreeOn (union x (rest_beside (below n) x y)) t (row_at r j)) where
     abbrev a : ℕ
     a = number_at p.lefts i
 
@@ -251,13 +252,13 @@ module _ (n : ℕ) (x y : Attributes) (r : Relation) (p : Parts n x y r) (over :
     b_in : b < rests
     b_in = p.rest_rows.each j (omega (arith, j_in, p.by_rest.one_each))
 
-    in_rest : (k : ℕ) → k < n → union x y k ≡ false → union x (rest_of n x y) k ≡ true
+    in_rest : (k : ℕ) → k < n → union x y k ≡ false → union x (rest_beside (below n) x y) k ≡ true
     in_rest k low outside = grind (arith, nat_tests, low, outside)
 
     of_left : (v : ℕ) → v < length r → number_at p.lefts v ≡ a → AgreeOn (union x y) (row_at r v) t
     of_left v v_in at k has = (p.by_both.equal v i v_in i_in).0 at k has ∙ sym (left k has)
 
-    of_rest : (v : ℕ) → v < length r → number_at p.rests v ≡ b → AgreeOn (union x (rest_of n x y)) (row_at r v) t
+    of_rest : (v : ℕ) → v < length r → number_at p.rests v ≡ b → AgreeOn (union x (rest_beside (below n) x y)) (row_at r v) t
     of_rest v v_in at k has = (p.by_rest.equal v j v_in j_in).0 at k has ∙ sym (rest k has)
 
     none_both : (v : ℕ) → v < length p.lefts → number_at p.lefts v ≡ a → number_at p.rests v ≡ b → ⊥
@@ -297,7 +298,7 @@ module _ (n : ℕ) (x y : Attributes) (r : Relation) (p : Parts n x y r) (over :
       let (i, i_in, i_is) = row_of r u u_in in
       let (j, j_in, j_is) = row_of r w w_in in
       let left : AgreeOn (union x y) t (row_at r i) = λ k has. u_agrees k has ∙ sym (ap (λ (q : Tuple). value_at q k) i_is) in
-      let rest : AgreeOn (union x (rest_of n x y)) t (row_at r j) = λ k has. w_agrees k has ∙ sym (ap (λ (q : Tuple). value_at q k) j_is) in
+      let rest : AgreeOn (union x (rest_beside (below n) x y)) t (row_at r j) = λ k has. w_agrees k has ∙ sym (ap (λ (q : Tuple). value_at q k) j_is) in
       subst (Contains (listed of_left_part lefts)) (is_joined t m i j i_in j_in left rest)
       (listed_in of_left_part lefts (number_at p.lefts i) _ (a_in t m i j i_in j_in left rest)
       (for_in (joined (number_at p.lefts i)) rests (lacked (number_at p.lefts i)) (number_at p.rests j) (b_in t m i j i_in j_in left rest) (is_lacked t m i j i_in j_in left rest)))

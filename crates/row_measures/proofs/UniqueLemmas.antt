@@ -4,14 +4,15 @@ use Rattle.std.proofs.Common.{◌≡◌, ℕ, zero, suc, ◌<◌, ◌≤◌, Boo
 use Rattle.std.proofs.lemmas.Bool.{cases_lt}
 use Rattle.std.proofs.lemmas.Grind.{same_number_lists}
 use Rattle.std.proofs.lemmas.List.{ext_get_or}
-use Rattle.attr_sets.specs.Attributes.{Attributes, union}
+use Rattle.attr_sets.specs.Attributes.{Attributes, union, below}
 use Rattle.attr_sets.proofs.AttributesLemmas.{same_truth}
 use Rattle.row_groups.specs.Numberings.{AreFirsts, AreGroups, number_at}
 use Rattle.dep_model.specs.Tuples.{Relation}
+use Rattle.dep_model.specs.Dependencies.{rest_beside}
 use Rattle.legality.specs.Parts.{flag_at}
 use Rattle.removal_laws.specs.Classes.{rows_of}
 use Rattle.row_measures.specs.Broken.{AreChosen, AreFlags, HasTwoClasses, LacksRow}
-use Rattle.row_measures.specs.Sorted.{Classes, Parts, rest_of}
+use Rattle.row_measures.specs.Sorted.{Classes, Parts}
 
 -- ---- one numbering
 not_less : (r : Relation) (x : Attributes) (one other : List ℕ) → AreGroups r x one → AreGroups r x other
@@ -155,7 +156,7 @@ same_of_parts {A} {n} {x} {y} {r} f c d =
     by d.groups d.firsts d.lefts d.left_firsts d.rests d.rest_firsts d.broken
     (one_numbering r x c.groups d.groups c.by_left d.by_left)
     (one_numbering r (union x y) c.lefts d.lefts c.by_both d.by_both)
-    (one_numbering r (union x (rest_of n x y)) c.rests d.rests c.by_rest d.by_rest)
+    (one_numbering r (union x (rest_beside (below n) x y)) c.rests d.rests c.by_rest d.by_rest)
     d.group_rows d.left_rows d.rest_rows d.flags
   where
     by : (groups firsts lefts left_firsts rests rest_firsts : List ℕ) (broken : List Bool) → c.groups ≡ groups → c.lefts ≡ lefts → c.rests ≡ rests

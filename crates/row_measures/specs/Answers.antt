@@ -12,8 +12,8 @@ use Rattle.row_measures.specs.Broken.{flagged_groups, flagged_rows, in_flagged, 
 use Rattle.row_measures.specs.Sorted.{Classes, Parts, class_groups}
 use Rattle.row_measures.specs.declared.breach.BrokenPart.{BrokenPart}
 use Rattle.row_measures.specs.declared.breach.BrokenRow.{BrokenRow}
-use Rattle.row_measures.specs.declared.breach.Mark.{Mark}
-use Rattle.row_measures.specs.declared.breach.Mark.TheVariants as mark
+use Rattle.row_measures.specs.declared.breach.RowMark.{RowMark}
+use Rattle.row_measures.specs.declared.breach.RowMark.TheVariants as mark
 use Rattle.row_measures.specs.declared.breach.Measure.{Measure}
 
 -- ---- how far the rows are from obeying a dependency
@@ -39,7 +39,7 @@ IsMeasure n r (mvd x y) m = (p : Parts n x y r) × (m ≡ measure_by_parts p)
 
 -- ---- the classes of broken groups
 -- a class is kept where it is the chosen one of its group
-abbrev pub mark_of : Bool → Mark
+abbrev pub mark_of : Bool → RowMark
 mark_of kept = if kept then mark.Kept else mark.Removed
 
 abbrev pub class_part : {x y : Attributes} {r : Relation} → Classes x y r → ℕ → BrokenPart

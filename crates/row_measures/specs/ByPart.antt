@@ -11,7 +11,7 @@ use Rattle.row_measures.specs.Broken.{missing_pairs, ordinal}
 use Rattle.row_measures.specs.Sorted.{Parts}
 use Rattle.row_measures.specs.declared.breach.BrokenPart.{BrokenPart}
 use Rattle.row_measures.specs.declared.breach.BrokenRow.{BrokenRow}
-use Rattle.row_measures.specs.declared.breach.Mark.TheVariants as mark
+use Rattle.row_measures.specs.declared.breach.RowMark.TheVariants as mark
 use Rattle.row_measures.specs.declared.by_part.ByPart.{ByPart}
 
 -- a flag is set exactly where one of the first n left parts has fewer rests than its group

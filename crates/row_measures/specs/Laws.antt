@@ -1,11 +1,11 @@
 -- What the laws of row_measures say of lists, and of the tuples that groups lack.
 use Rattle.std.specs.Prelude.{◌≡◌, ◌<◌, ◌↔◌, ℕ, List, length, Contains}
-use Rattle.attr_sets.specs.Attributes.{Attributes, union}
+use Rattle.attr_sets.specs.Attributes.{Attributes, union, below}
 use Rattle.dep_model.specs.Tuples.{AgreeOn, Relation, Tuple}
+use Rattle.dep_model.specs.Dependencies.{rest_beside}
 use Rattle.row_store.specs.Rows.{row_at}
-use Rattle.row_measures.specs.Sorted.{rest_of}
 use Rattle.row_measures.specs.declared.breach.BrokenRow.{BrokenRow}
-use Rattle.row_measures.specs.declared.breach.Mark.TheVariants as mark
+use Rattle.row_measures.specs.declared.breach.RowMark.TheVariants as mark
 
 -- a row is listed, and marked as removed
 abbrev pub IsRemoved : List BrokenRow → ℕ → Type 0
@@ -21,7 +21,7 @@ pub record IsMissing (n : ℕ) (x y : Attributes) (r : Relation) (t : Tuple) : T
   pub size : length t ≡ n
   pub no_row : Contains r t → ⊥
   pub left : (u : Tuple) × Contains r u × AgreeOn (union x y) t u
-  pub rest : (u : Tuple) × Contains r u × AgreeOn (union x (rest_of n x y)) t u
+  pub rest : (u : Tuple) × Contains r u × AgreeOn (union x (rest_beside (below n) x y)) t u
 
 -- these are all missing tuples, each once
 pub record AreMissing (n : ℕ) (x y : Attributes) (r : Relation) (ts : List Tuple) : Type 0 where

@@ -1,8 +1,9 @@
 -- The numbers by which rows are measured against a dependency: for `Answers`.
 use Rattle.std.specs.Prelude.{ℕ, Bool, List, map}
-use Rattle.attr_sets.specs.Attributes.{Attributes, below, union, difference}
+use Rattle.attr_sets.specs.Attributes.{Attributes, below, union}
 use Rattle.row_groups.specs.Numberings.{AreGroups, AreFirsts, number_at}
 use Rattle.dep_model.specs.Tuples.{Relation}
+use Rattle.dep_model.specs.Dependencies.{rest_beside}
 use Rattle.row_measures.specs.Broken.{AreChosen, AreFlags, HasTwoClasses, LacksRow}
 
 -- rows against x -> y: those that agree on x are a group, those that agree on y too are a class
@@ -24,10 +25,6 @@ pub record Classes (x y : Attributes) (r : Relation) : Type 0 where
 abbrev pub class_groups : {x y : Attributes} {r : Relation} → Classes x y r → List ℕ
 class_groups c = map (number_at c.groups) c.class_firsts
 
--- what is outside x and y
-abbrev pub rest_of : ℕ → Attributes → Attributes → Attributes
-rest_of n x y = difference (below n) (union x y)
-
 -- rows over n attributes against x ->> y: those that agree on x are a group, those that agree on y too have
 -- one left part, and those that agree on x and on what is outside x and y have one rest
 pub record Parts (n : ℕ) (x y : Attributes) (r : Relation) : Type 0 where
@@ -42,6 +39,6 @@ pub record Parts (n : ℕ) (x y : Attributes) (r : Relation) : Type 0 where
   pub group_rows : AreFirsts groups firsts
   pub by_both : AreGroups r (union x y) lefts
   pub left_rows : AreFirsts lefts left_firsts
-  pub by_rest : AreGroups r (union x (rest_of n x y)) rests
+  pub by_rest : AreGroups r (union x (rest_beside (below n) x y)) rests
   pub rest_rows : AreFirsts rests rest_firsts
   pub flags : AreFlags firsts (LacksRow groups lefts rests) broken

@@ -12,7 +12,7 @@ pub struct Measure {
 
 /// Whether a row, or all rows of a class, are among those that a functional dependency keeps.
 #[derive(Clone, Copy, Debug, PartialEq, Eq, Hash)]
-pub enum Mark {
+pub enum RowMark {
     /// In the chosen class of a broken group.
     Kept,
     /// In another class of a broken group: the rows that are so marked are a least removal.
@@ -31,7 +31,7 @@ pub struct BrokenPart {
     /// Its first row, from 0.
     pub first: u32,
     /// Whether it is the chosen class of its group.
-    pub mark: Mark,
+    pub mark: RowMark,
 }
 
 /// A row of a broken group.
@@ -42,5 +42,5 @@ pub struct BrokenRow {
     /// The row, from 0.
     pub row: u32,
     /// Whether it is in the chosen class of its group.
-    pub mark: Mark,
+    pub mark: RowMark,
 }

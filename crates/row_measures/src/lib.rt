@@ -24,7 +24,7 @@ mod measuring;
 mod ordering;
 mod within;
 
-pub use breach::{BrokenPart, BrokenRow, Mark, Measure};
+pub use breach::{BrokenPart, BrokenRow, Measure, RowMark};
 pub use keeping::kept_rows;
 pub use laws::{
     kept_rows_are_legal, measure_counts_missing, measure_is_least, one_list_of_kept,

@@ -14,7 +14,7 @@ use crate::by_class::{ByClass, sort_by_class};
 use crate::by_part::{ByPart, sort_by_part};
 use crate::counting::{numbers_of, ordinals, row_counts};
 use crate::ordering::in_order;
-use crate::{BrokenPart, BrokenRow, Mark};
+use crate::{BrokenPart, BrokenRow, RowMark};
 use attr_sets::MOST_ATTRIBUTES;
 use dep_model::{Dep, OutOfMemory};
 use row_groups::Interned;
@@ -85,10 +85,14 @@ fn class_part(sorted: &ByClass, owners: &[u32], numbers: &[u32], class: u32) -> 
 }
 
 // Whether a class is the chosen one of its group.
-fn mark_of(is_chosen: bool) -> Mark
+fn mark_of(is_chosen: bool) -> RowMark
     ensures mark { result ≡ Spec.mark_of is_chosen }
 {
-    if is_chosen { Mark::Kept } else { Mark::Removed }
+    if is_chosen {
+        RowMark::Kept
+    } else {
+        RowMark::Removed
+    }
 }
 
 // Each broken group.
@@ -121,7 +125,7 @@ fn group_part(sorted: &ByPart, sizes: &[u32], numbers: &[u32], group: usize) -> 
         group: numbers[group],
         rows: sizes[group],
         first: sorted.groups.firsts()[group],
-        mark: Mark::Unmarked,
+        mark: RowMark::Unmarked,
     }
 }
 
@@ -221,6 +225,6 @@ fn group_row(sorted: &ByPart, numbers: &[u32], row: u32) -> BrokenRow
     BrokenRow {
         group: numbers[group],
         row,
-        mark: Mark::Unmarked,
+        mark: RowMark::Unmarked,
     }
 }

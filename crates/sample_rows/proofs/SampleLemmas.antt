@@ -10,7 +10,7 @@ use Rattle.attr_sets.specs.Attributes.{below, only, union, difference}
 use Rattle.dep_model.specs.Tuples.{Tuple, Relation, IsOver, AgreeOn, value_at}
 use Rattle.dep_model.specs.Dependencies.{ObeysFd, ObeysMvd, Obeys}
 use Rattle.dep_model.specs.Implication.{IsLegal}
-use Rattle.dep_model.proofs.DistinctLemmas.{all_pairs_cons}
+use Rattle.dep_model.proofs.PairLemmas.{all_pairs_cons}
 use Rattle.dep_model.proofs.ListLemmas.{Contains-cases, Contains-head, Contains-later}
 use Rattle.sample_rows.specs.Sample.{sample_row, person_rows, sample_relation, sample_theory}
 

@@ -7,9 +7,9 @@ use Rattle.std.proofs.lemmas.List.Kept.{AllPairs-cons}
 use Rattle.attr_sets.specs.Attributes.{Attributes, IsSubset, below, only}
 use Rattle.attr_sets.specs.Sets.{attributes}
 use Rattle.attr_sets.specs.declared.set.AttrSet.{AttrSet}
-use Rattle.dep_model.specs.Names.{is_bare_name, same_name}
+use Rattle.schema_model.specs.Names.{is_bare_name, same_name}
 use Rattle.dep_model.specs.Deps.{IsDepWithin}
-use Rattle.dep_model.specs.Validity.{IsSchema}
+use Rattle.schema_model.specs.Validity.{IsSchema}
 use Rattle.dep_model.specs.declared.dep.Dep.{Dep}
 use Rattle.dep_model.specs.declared.dep.Dep.TheVariants.{Fd, Mvd}
 use Rattle.sample_rows.specs.Sample.{sample_names}

@@ -1,10 +1,11 @@
 ghost use Rattle.std.specs.Prelude.{◌≡◌, ◌<◌, ◌∷◌, [], ℕ, slice_get, Some, IfOk, true};
-ghost use Rattle.dep_model.specs.Names.{is_bare_name};
-ghost use Rattle.dep_model.specs.Schemas.{types_of, lines_of, names_of, naming_of, theory_of, width_of};
+ghost use Rattle.schema_model.specs.Names.{is_bare_name};
+ghost use Rattle.schema_model.specs.Schemas.{types_of, lines_of, names_of, naming_of, theory_of, width_of};
 ghost use Rattle.sample_rows.specs.Sample.{sample_names, sample_theory};
 
 use attr_sets::AttrSet;
-use dep_model::{ColumnType, Dep, Name, Naming, OutOfMemory, Schema};
+use dep_model::{Dep, OutOfMemory};
+use schema_model::{ColumnType, Name, Naming, Schema};
 use std::alloc::Global;
 
 /// The schema of the sample, as the text
@@ -45,7 +46,7 @@ pub fn sample_schema(alloc: Global) -> Result<Schema, OutOfMemory>
 }
 
 // The name that a word is.
-#[tactic(auto, using(dep_model::proofs::NameLemmas::bare_name_is_name))]
+#[tactic(auto, using(schema_model::proofs::NameLemmas::bare_name_is_name))]
 fn name_of_word(word: &[u8]) -> Name
     requires name { is_bare_name word.now ≡ true }
     ensures name { result ≡ word.now }

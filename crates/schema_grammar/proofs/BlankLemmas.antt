@@ -1,8 +1,8 @@
 -- Which lines have no token.
 use Rattle.std.proofs.Common.{◌≡◌, ℕ, ◌+◌, zero, suc, Bool, true, false, cond, ◌==◌, ◌&&◌, List, [], ◌∷◌, take, drop, Option, Some, None, nat_eq, refl, sym, ◌∙◌, ap, arith}
 use Rattle.std.specs.List.{starts_with}
-use Rattle.dep_model.specs.declared.naming.Naming.TheVariants.{Bare}
-use Rattle.dep_model.specs.Names.{is_bare_name, is_name_byte}
+use Rattle.schema_model.specs.declared.naming.Naming.TheVariants.{Bare}
+use Rattle.schema_model.specs.Names.{is_bare_name, is_name_byte}
 use Rattle.lexer.specs.declared.piece.Piece.{Piece}
 use Rattle.lexer.specs.declared.piece.Piece.TheVariants as piece
 use Rattle.lexer.specs.declared.mode.Mode.{Mode}

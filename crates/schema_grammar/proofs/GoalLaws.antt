@@ -6,9 +6,9 @@ use Rattle.std.proofs.lemmas.List.Elements.{All-cons, All-nil, All-head, All-tai
 use Rattle.schema_grammar.proofs.RefusalLemmas.{and_then-ok}
 use Rattle.std.specs.Prelude.{◌↔◌}
 use Rattle.attr_sets.specs.Attributes.{Attributes, only, none, union}
-use Rattle.dep_model.specs.declared.naming.Naming.{Naming}
+use Rattle.schema_model.specs.declared.naming.Naming.{Naming}
 use Rattle.dep_model.specs.Dependencies.{Dependency}
-use Rattle.dep_model.specs.Schemas.{attribute_named}
+use Rattle.schema_model.specs.Schemas.{attribute_named}
 use Rattle.lexer.specs.Modes as mode
 use Rattle.lexer.specs.declared.token.LexError.{LexError}
 use Rattle.lexer.specs.declared.token.TokenKind.{TokenKind}

@@ -4,13 +4,13 @@ use Rattle.std.specs.Prelude.{codes, map, nat_le}
 use Rattle.std.specs.List.{All, starts_with}
 use Rattle.std.proofs.lemmas.Bool.Decides.{nat_tests}
 use Rattle.std.proofs.lemmas.Fmt.{decimal_digit}
-use Rattle.dep_model.specs.declared.column_type.ColumnType.{ColumnType}
-use Rattle.dep_model.specs.declared.column_type.ColumnType.TheVariants as types
-use Rattle.dep_model.specs.declared.column_type.TheConstants.{MOST_SCALE}
-use Rattle.dep_model.specs.declared.naming.Naming.TheVariants.{Any}
-use Rattle.dep_model.specs.Columns.{is_column_type, is_plain_type}
-use Rattle.dep_model.specs.Names.{is_bare_name, is_type_text, quoted}
-use Rattle.dep_model.proofs.NameLemmas.{type_text_is_name}
+use Rattle.schema_model.specs.declared.column_type.ColumnType.{ColumnType}
+use Rattle.schema_model.specs.declared.column_type.ColumnType.TheVariants as types
+use Rattle.schema_model.specs.declared.column_type.TheConstants.{MOST_SCALE}
+use Rattle.schema_model.specs.declared.naming.Naming.TheVariants.{Any}
+use Rattle.schema_model.specs.Columns.{is_column_type, is_plain_type}
+use Rattle.schema_model.specs.Names.{is_bare_name, is_type_text, quoted}
+use Rattle.schema_model.proofs.NameLemmas.{type_text_is_name}
 use Rattle.lexer.specs.declared.mode.Mode.{Mode}
 use Rattle.lexer.specs.declared.piece.Piece.TheVariants as piece
 use Rattle.lexer.specs.declared.token.TokenKind.TheVariants as token

@@ -7,7 +7,7 @@ use Rattle.std.proofs.lemmas.List.{append-nil}
 use Rattle.std.proofs.lemmas.List.Elements.{All-head, All-tail}
 use Rattle.std.proofs.lemmas.Slice.Eq.{bytes_eq-Decides}
 use Rattle.attr_sets.specs.Attributes.{Attributes, IsSubset, below}
-use Rattle.dep_model.specs.declared.naming.Naming.{Naming}
+use Rattle.schema_model.specs.declared.naming.Naming.{Naming}
 use Rattle.dep_model.specs.Dependencies.{Dependency, fd, mvd, IsWithin}
 use Rattle.lexer.specs.declared.mode.Mode.{Mode}
 use Rattle.lexer.specs.Modes as mode

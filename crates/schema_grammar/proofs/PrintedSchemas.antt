@@ -9,18 +9,18 @@ use Rattle.std.proofs.lemmas.List.Elements.{All-nil, All-tail}
 use Rattle.std.proofs.lemmas.List.Folds.{Any-from_list_any}
 use Rattle.attr_sets.specs.Attributes.{Attributes, none, below, IsSubset}
 use Rattle.attr_sets.specs.declared.set.TheConstants.{MOST_ATTRIBUTES}
-use Rattle.dep_model.specs.declared.column_type.ColumnType.{ColumnType}
-use Rattle.dep_model.specs.declared.column_type.ColumnType.TheVariants.{Text, Integer}
-use Rattle.dep_model.specs.declared.naming.Naming.{Naming}
-use Rattle.dep_model.specs.declared.naming.Naming.TheVariants.{Bare, Any}
-use Rattle.dep_model.specs.declared.schema.Schema.{Schema}
+use Rattle.schema_model.specs.declared.column_type.ColumnType.{ColumnType}
+use Rattle.schema_model.specs.declared.column_type.ColumnType.TheVariants.{Text, Integer}
+use Rattle.schema_model.specs.declared.naming.Naming.{Naming}
+use Rattle.schema_model.specs.declared.naming.Naming.TheVariants.{Bare, Any}
+use Rattle.schema_model.specs.Schemas.{Schema}
 use Rattle.dep_model.specs.Dependencies.{Dependency, IsWithin}
 use Rattle.dep_model.specs.Deps.{dependency_of}
-use Rattle.dep_model.specs.Schemas.{naming_of, names_of, types_of, nullable_of, deps_of, theory_of, universe_of}
+use Rattle.schema_model.specs.Schemas.{naming_of, names_of, types_of, nullable_of, deps_of, theory_of, universe_of}
 use Rattle.dep_model.proofs.DepLemmas.{dependencies_all-from}
-use Rattle.dep_model.specs.Columns.{is_plain_type}
-use Rattle.dep_model.specs.Names.{is_type_name}
-use Rattle.dep_model.specs.Validity.{AreBare}
+use Rattle.schema_model.specs.Columns.{is_plain_type}
+use Rattle.schema_model.specs.Names.{is_type_name}
+use Rattle.schema_model.specs.Validity.{AreBare}
 use Rattle.lexer.specs.Modes as mode
 use Rattle.lexer.specs.declared.piece.Piece.TheVariants as piece
 use Rattle.lexer.specs.declared.token.TokenKind.TheVariants as token

@@ -8,7 +8,7 @@ use Rattle.std.proofs.lemmas.List.Folds.{list_all-append}
 use Rattle.std.proofs.lemmas.List.Sums.{AllPass-from_list_all, list_all-from_AllPass}
 use Rattle.std.proofs.lemmas.List.Splits.{slice_split_at}
 use Rattle.std.proofs.lemmas.Bool.{and_parts}
-use Rattle.dep_model.specs.Names.{is_bare_name, is_name_byte}
+use Rattle.schema_model.specs.Names.{is_bare_name, is_name_byte}
 use Rattle.lexer.specs.Lines.{is_line_feed, line_texts, without_return, without_returns}
 use Rattle.schema_printer.specs.Printing.{words_text, lines_text}
 use Rattle.schema_grammar.proofs.PrintedLexing.{AllNames, named_parts}

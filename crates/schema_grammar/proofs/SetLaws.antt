@@ -5,7 +5,7 @@ use Rattle.std.specs.List.{slice_get}
 use Rattle.std.proofs.lemmas.List.{nil_from_length}
 use Rattle.std.proofs.lemmas.Option.{slice_get_within}
 use Rattle.attr_sets.specs.Attributes.{Attributes, none}
-use Rattle.dep_model.specs.declared.naming.Naming.{Naming}
+use Rattle.schema_model.specs.declared.naming.Naming.{Naming}
 use Rattle.dep_model.specs.Dependencies.{Dependency, right_of}
 use Rattle.lexer.specs.Modes as mode
 use Rattle.lexer.specs.declared.token.LexError.{LexError}

@@ -11,21 +11,21 @@ use Rattle.std.proofs.lemmas.List.Quantifiers.{all_pairs_push}
 use Rattle.std.proofs.lemmas.List.Sums.{fails_before_first}
 use Rattle.attr_sets.specs.Attributes.{Attributes, IsSubset, IsEmpty, below}
 use Rattle.attr_sets.specs.declared.set.TheConstants.{MOST_ATTRIBUTES}
-use Rattle.dep_model.specs.declared.naming.Naming.TheVariants.{Bare}
-use Rattle.dep_model.specs.declared.column_type.ColumnType.{ColumnType}
-use Rattle.dep_model.specs.declared.column_type.ColumnType.TheVariants.{Text, Integer}
+use Rattle.schema_model.specs.declared.naming.Naming.TheVariants.{Bare}
+use Rattle.schema_model.specs.declared.column_type.ColumnType.{ColumnType}
+use Rattle.schema_model.specs.declared.column_type.ColumnType.TheVariants.{Text, Integer}
 use Rattle.dep_model.specs.declared.dep.Dep.{Dep}
 use Rattle.schema_grammar.specs.declared.format.TheConstants.{MOST_DEPENDENCY_LINES}
 use Rattle.dep_model.specs.Dependencies.{Dependency, IsWithin, left_of, right_of}
 use Rattle.dep_model.specs.Deps.{dependency_of, dependencies_of}
-use Rattle.dep_model.specs.declared.column_type.ColumnType.TheVariants as types
-use Rattle.dep_model.specs.declared.column_type.TheConstants.{MOST_SCALE}
-use Rattle.dep_model.specs.Columns.{is_column_type, is_plain_type}
-use Rattle.dep_model.specs.Names.{IsName, is_bare_name, same_name, is_type_name}
-use Rattle.dep_model.specs.Schemas.{attribute_named}
-use Rattle.dep_model.specs.Validity.{IsSchema, AreDeclared}
+use Rattle.schema_model.specs.declared.column_type.ColumnType.TheVariants as types
+use Rattle.schema_model.specs.declared.column_type.TheConstants.{MOST_SCALE}
+use Rattle.schema_model.specs.Columns.{is_column_type, is_plain_type}
+use Rattle.schema_model.specs.Names.{IsName, is_bare_name, same_name, is_type_name}
+use Rattle.schema_model.specs.Schemas.{attribute_named}
+use Rattle.schema_model.specs.Validity.{IsSchema, AreDeclared}
 use Rattle.dep_model.proofs.DepLemmas.{dependencies_all-to}
-use Rattle.dep_model.proofs.NameLemmas.{bare_name_is_name}
+use Rattle.schema_model.proofs.NameLemmas.{bare_name_is_name}
 use Rattle.lexer.specs.declared.piece.Piece.{Piece}
 use Rattle.lexer.specs.declared.piece.Piece.TheVariants as piece
 use Rattle.lexer.specs.declared.mode.Mode.{Mode}

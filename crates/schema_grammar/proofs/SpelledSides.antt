@@ -9,11 +9,11 @@ use Rattle.std.proofs.lemmas.Bool.Decides.{nat_tests}
 use Rattle.std.proofs.lemmas.List.{get_or_append_left, get_or_at}
 use Rattle.std.proofs.lemmas.List.Elements.{All-nil, All-cons, All-head, All-tail}
 use Rattle.attr_sets.specs.Attributes.{Attributes, below, IsSubset}
-use Rattle.dep_model.specs.declared.naming.Naming.{Naming}
-use Rattle.dep_model.specs.declared.naming.Naming.TheVariants.{Bare, Any}
-use Rattle.dep_model.specs.Names.{is_bare_name, same_name}
-use Rattle.dep_model.specs.Schemas.{attribute_named}
-use Rattle.dep_model.proofs.NameLemmas.{attribute_named-append}
+use Rattle.schema_model.specs.declared.naming.Naming.{Naming}
+use Rattle.schema_model.specs.declared.naming.Naming.TheVariants.{Bare, Any}
+use Rattle.schema_model.specs.Names.{is_bare_name, same_name}
+use Rattle.schema_model.specs.Schemas.{attribute_named}
+use Rattle.schema_model.proofs.NameLemmas.{attribute_named-append}
 use Rattle.schema_printer.specs.Printing.{members_from}
 use Rattle.schema_printer.specs.Spelling.{is_schema_word, spelling}
 use Rattle.schema_printer.proofs.MemberLemmas.{members_each}

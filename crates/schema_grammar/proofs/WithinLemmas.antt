@@ -6,8 +6,8 @@ use Rattle.std.proofs.lemmas.Bool.{eqb-true, false≢true, or_cases}
 use Rattle.std.proofs.lemmas.List.Quantifiers.{position-Some}
 use Rattle.attr_sets.specs.Attributes.{Attributes, IsSubset, below, none, union}
 use Rattle.dep_model.specs.Dependencies.{Dependency, IsWithin}
-use Rattle.dep_model.specs.Names.{same_name}
-use Rattle.dep_model.specs.Schemas.{attribute_named}
+use Rattle.schema_model.specs.Names.{same_name}
+use Rattle.schema_model.specs.Schemas.{attribute_named}
 use Rattle.lexer.specs.declared.token.LexError.{LexError}
 use Rattle.lexer.specs.Tokens.{Mark}
 use Rattle.schema_grammar.specs.declared.format.Format.{Format}

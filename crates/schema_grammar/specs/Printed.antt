@@ -1,9 +1,9 @@
 -- Names that are read again where they are printed: for the laws of printed schemas, plans and
 -- certificates. `Desk` does not cite it.
 use Rattle.std.specs.Prelude.{◌≡◌, ℕ, true, false, List, All, AllPairs}
-use Rattle.dep_model.specs.declared.naming.Naming.{Naming}
-use Rattle.dep_model.specs.declared.naming.Naming.TheVariants.{Bare, Any}
-use Rattle.dep_model.specs.Names.{IsName, is_bare_name, same_name}
+use Rattle.schema_model.specs.declared.naming.Naming.{Naming}
+use Rattle.schema_model.specs.declared.naming.Naming.TheVariants.{Bare, Any}
+use Rattle.schema_model.specs.Names.{IsName, is_bare_name, same_name}
 use Rattle.schema_grammar.specs.declared.format.Format.{Format}
 use Rattle.schema_grammar.specs.declared.format.Format.TheVariants as format
 use Rattle.schema_grammar.specs.Words.{is_reserved}

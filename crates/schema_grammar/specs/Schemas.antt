@@ -2,13 +2,13 @@
 -- read a schema (`desk_inputs/Inputs`).
 use Rattle.std.specs.Prelude.{◌≡◌, ◌<◌, ◌⊎◌, ℕ, ◌+◌, ◌-◌, Result, Ok, Err, Bool, true, false, List, [], ◌∷◌, ◌++◌, length, Option, Some, None, All, slice_get}
 use Rattle.attr_sets.specs.declared.set.TheConstants.{MOST_ATTRIBUTES}
-use Rattle.dep_model.specs.declared.column_type.ColumnType.{ColumnType}
-use Rattle.dep_model.specs.declared.column_type.ColumnType.TheVariants as types
+use Rattle.schema_model.specs.declared.column_type.ColumnType.{ColumnType}
+use Rattle.schema_model.specs.declared.column_type.ColumnType.TheVariants as types
 use Rattle.schema_grammar.specs.declared.format.TheConstants.{MOST_DEPENDENCY_LINES}
-use Rattle.dep_model.specs.declared.naming.Naming.TheVariants.{Bare}
+use Rattle.schema_model.specs.declared.naming.Naming.TheVariants.{Bare}
 use Rattle.dep_model.specs.Dependencies.{Dependency}
-use Rattle.dep_model.specs.Names.{is_type_text}
-use Rattle.dep_model.specs.Schemas.{attribute_named}
+use Rattle.schema_model.specs.Names.{is_type_text}
+use Rattle.schema_model.specs.Schemas.{attribute_named}
 use Rattle.lexer.specs.Modes as mode
 use Rattle.lexer.specs.declared.token.LexError.{LexError}
 use Rattle.lexer.specs.declared.token.TokenKind.TheVariants as token

@@ -2,7 +2,7 @@
 -- refused and how it is read. For `read_set` and the command `basis` (`desk_inputs/Inputs`).
 use Rattle.std.specs.Prelude.{◌≡◌, ◌⊎◌, ℕ, zero, suc, false, List, [], length, Option, Some, None, Result, Ok, Err, slice_get}
 use Rattle.attr_sets.specs.Attributes.{Attributes, none}
-use Rattle.dep_model.specs.declared.naming.Naming.{Naming}
+use Rattle.schema_model.specs.declared.naming.Naming.{Naming}
 use Rattle.dep_model.specs.Dependencies.{right_of}
 use Rattle.lexer.specs.Modes as mode
 use Rattle.lexer.specs.declared.token.LexError.{LexError}

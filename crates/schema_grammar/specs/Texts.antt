@@ -2,9 +2,9 @@
 -- `Desk` cites `declarations_of` and the tests of a version line.
 use Rattle.std.specs.Prelude.{ℕ, ◌+◌, ◌-◌, ◌==◌, Bool, false, if◌then◌else◌, List, [], ◌∷◌, length, Option, Some, None, Result, Ok, Err, codes}
 use Rattle.std.specs.Str.{bytes_eq}
-use Rattle.dep_model.specs.declared.naming.Naming.TheVariants.{Bare}
-use Rattle.dep_model.specs.declared.schema.Schema.{Schema}
-use Rattle.dep_model.specs.Schemas.{names_of, types_of, theory_of, lines_of, naming_of, nullable_of}
+use Rattle.schema_model.specs.declared.naming.Naming.TheVariants.{Bare}
+use Rattle.schema_model.specs.Schemas.{Schema}
+use Rattle.schema_model.specs.Schemas.{names_of, types_of, theory_of, lines_of, naming_of, nullable_of}
 use Rattle.lexer.specs.Modes as mode
 use Rattle.lexer.specs.declared.token.LexError.{LexError}
 use Rattle.lexer.specs.declared.token.TokenKind.{TokenKind}

@@ -2,12 +2,12 @@
 -- plans and certificates.
 use Rattle.std.specs.Prelude.{ℕ, Bool, true, false, ◌||◌, List, [], ◌∷◌, Option, Some, None, Result, Ok, Err, codes, if◌then◌else◌}
 use Rattle.std.specs.Str.{bytes_eq}
-use Rattle.dep_model.specs.declared.column_type.ColumnType.{ColumnType}
-use Rattle.dep_model.specs.declared.column_type.ColumnType.TheVariants.{Text, Integer, Date, Timestamp, Uuid}
+use Rattle.schema_model.specs.declared.column_type.ColumnType.{ColumnType}
+use Rattle.schema_model.specs.declared.column_type.ColumnType.TheVariants.{Text, Integer, Date, Timestamp, Uuid}
 use Rattle.lexer.specs.declared.token.TokenKind.{TokenKind}
 use Rattle.lexer.specs.declared.token.TokenKind.TheVariants as token
-use Rattle.dep_model.specs.Names.{same_name, is_type_name}
-use Rattle.dep_model.specs.Schemas.{attribute_named}
+use Rattle.schema_model.specs.Names.{same_name, is_type_name}
+use Rattle.schema_model.specs.Schemas.{attribute_named}
 use Rattle.schema_printer.specs.Spelling.{is_schema_word}
 use Rattle.schema_grammar.specs.declared.line_kind.LineKind.{LineKind}
 use Rattle.schema_grammar.specs.declared.line_kind.LineKind.TheVariants as begins

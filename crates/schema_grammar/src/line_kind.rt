@@ -1,4 +1,4 @@
-use dep_model::ColumnType;
+use schema_model::ColumnType;
 
 /// What the names of a line are for.
 #[derive(Clone, Copy, Debug, PartialEq, Eq)]

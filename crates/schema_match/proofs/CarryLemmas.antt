@@ -8,8 +8,8 @@ use Rattle.std.proofs.lemmas.Bool.{cases_eq, eqb-true, eq-eqb, or_cases, falseâ‰
 use Rattle.std.proofs.lemmas.Option.{same_Some}
 use Rattle.attr_sets.specs.Attributes.{Attributes, IsSubset, only, union}
 use Rattle.attr_sets.proofs.AttributesLemmas.{same_from_within, same_at}
-use Rattle.dep_model.specs.declared.schema.Schema.{Schema}
-use Rattle.dep_model.specs.Schemas.{names_of, width_of, universe_of, attribute_named}
+use Rattle.schema_model.specs.Schemas.{Schema}
+use Rattle.schema_model.specs.Schemas.{names_of, width_of, universe_of, attribute_named}
 use Rattle.schema_match.specs.Columns.{name_of_attribute}
 use Rattle.schema_match.specs.Carried.{carry_attributes}
 use Rattle.schema_match.specs.Namesakes.{AreNamesakes, IsNamesakeFrom}

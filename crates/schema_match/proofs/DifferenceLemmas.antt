@@ -9,10 +9,10 @@ use Rattle.std.proofs.lemmas.List.Quantifiers.{all_pairs_push}
 use Rattle.std.proofs.lemmas.Option.{slice_get-map, same_Some, slice_get_within, slice_get-get_or}
 use Rattle.std.proofs.lemmas.Option.{get_or_from_slice_get}
 use Rattle.dep_model.specs.declared.dep.Dep.{Dep}
-use Rattle.dep_model.specs.declared.schema.Schema.{Schema}
+use Rattle.schema_model.specs.Schemas.{Schema}
 use Rattle.dep_model.specs.Dependencies.{Dependency, IsWithin}
 use Rattle.dep_model.specs.Deps.{dependency_of, IsDepWithin}
-use Rattle.dep_model.specs.Schemas.{deps_of, universe_of, theory_of, ImpliedBy}
+use Rattle.schema_model.specs.Schemas.{deps_of, universe_of, theory_of, ImpliedBy}
 use Rattle.dep_model.proofs.ListLemmas.{Contains-head}
 use Rattle.schema_match.specs.Carried.{carry_dependency, FollowsInSchema, IsImpliedBy}
 use Rattle.schema_match.specs.Differences.{IsDifference, AreDifferences}

@@ -4,10 +4,10 @@ use Rattle.std.specs.Prelude.{All}
 use Rattle.std.proofs.lemmas.List.{length-map, get_or-map, ext_get_or}
 use Rattle.std.proofs.lemmas.List.Elements.{All-head, All-tail, All-map}
 use Rattle.attr_sets.specs.Attributes.{Attributes, IsSubset}
-use Rattle.dep_model.specs.declared.schema.Schema.{Schema}
+use Rattle.schema_model.specs.Schemas.{Schema}
 use Rattle.dep_model.specs.Tuples.{Tuple, Relation, IsOver, value_at}
 use Rattle.dep_model.specs.Dependencies.{Dependency, fd, mvd, Obeys, IsWithin}
-use Rattle.dep_model.specs.Schemas.{names_of, width_of, universe_of, theory_of, deps_of, attribute_named, LegalFor}
+use Rattle.schema_model.specs.Schemas.{names_of, width_of, universe_of, theory_of, deps_of, attribute_named, LegalFor}
 use Rattle.dep_model.proofs.ListLemmas.{Contains-map, map-member}
 use Rattle.dep_model.proofs.DepLemmas.{dependencies_all-from}
 use Rattle.schema_match.specs.Columns.{name_of_attribute, SameNames, value_named, reorder_tuple, reorder}

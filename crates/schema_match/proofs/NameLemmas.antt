@@ -10,9 +10,9 @@ use Rattle.std.proofs.lemmas.List.Sums.{position_or_len_is}
 use Rattle.std.proofs.lemmas.Option.{get_or_from_slice_get}
 use Rattle.std.proofs.lemmas.Slice.Eq.{bytes_eq-Decides}
 use Rattle.attr_sets.specs.Attributes.{Attributes}
-use Rattle.dep_model.specs.declared.schema.Schema.{Schema}
-use Rattle.dep_model.specs.Names.{same_name}
-use Rattle.dep_model.specs.Schemas.{names_of, width_of, attribute_named}
+use Rattle.schema_model.specs.Schemas.{Schema}
+use Rattle.schema_model.specs.Names.{same_name}
+use Rattle.schema_model.specs.Schemas.{names_of, width_of, attribute_named}
 use Rattle.schema_match.specs.Columns.{name_of_attribute, undeclared_attributes, IsDeclaredBy}
 use Rattle.schema_match.specs.Carried.{carry_attributes}
 

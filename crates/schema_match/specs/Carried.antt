@@ -2,10 +2,10 @@
 -- `differences` and `check same` (`desk_covers/Sameness`).
 use Rattle.std.specs.Prelude.{◌&&◌, nat_lt, ◌↔◌, false, All, option_map, unwrap_or}
 use Rattle.attr_sets.specs.Attributes.{Attributes}
-use Rattle.dep_model.specs.declared.schema.Schema.{Schema}
+use Rattle.schema_model.specs.Schemas.{Schema}
 use Rattle.dep_model.specs.Tuples.{Relation, IsOver}
 use Rattle.dep_model.specs.Dependencies.{Dependency, fd, mvd}
-use Rattle.dep_model.specs.Schemas.{width_of, theory_of, LegalFor, ImpliedBy}
+use Rattle.schema_model.specs.Schemas.{width_of, theory_of, LegalFor, ImpliedBy}
 use Rattle.schema_match.specs.Columns.{namesake, reorder}
 
 -- a set of a schema's attributes, carried over to another by names: the attributes there that have a

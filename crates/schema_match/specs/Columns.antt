@@ -3,9 +3,9 @@
 use Rattle.std.specs.Prelude.{ℕ, ◌&&◌, nat_lt, List, [], map, slice_index_or}
 use Rattle.std.specs.Prelude.{Option, is_none, option_map, unwrap_or}
 use Rattle.attr_sets.specs.Attributes.{Attributes, IsEmpty}
-use Rattle.dep_model.specs.declared.schema.Schema.{Schema}
+use Rattle.schema_model.specs.Schemas.{Schema}
 use Rattle.dep_model.specs.Tuples.{Tuple, Relation, value_at}
-use Rattle.dep_model.specs.Schemas.{names_of, width_of, attribute_named}
+use Rattle.schema_model.specs.Schemas.{names_of, width_of, attribute_named}
 
 -- the name of an attribute of a schema
 abbrev pub name_of_attribute : Schema → ℕ → List ℕ

@@ -1,9 +1,9 @@
 -- The dependencies of a schema that another does not imply: for `differences` and `check same`
 -- (`desk_covers/Sameness`).
 use Rattle.std.specs.Prelude.{◌≡◌, ℕ, ◌<◌, ◌⊎◌, List, AllPairs, Contains, slice_get, Some}
-use Rattle.dep_model.specs.declared.schema.Schema.{Schema}
+use Rattle.schema_model.specs.Schemas.{Schema}
 use Rattle.dep_model.specs.Dependencies.{Dependency}
-use Rattle.dep_model.specs.Schemas.{theory_of}
+use Rattle.schema_model.specs.Schemas.{theory_of}
 use Rattle.schema_match.specs.Carried.{FollowsInSchema}
 
 -- the dependency of this number, from 0 in the order of the file, does not follow from another schema

@@ -1,9 +1,9 @@
 ghost use Rattle.std.specs.Prelude.{◌≡◌, ℕ, ◌<◌, ◌≤◌, ◌↔◌, true, length, All};
 ghost use Rattle.attr_sets.specs.Sets.{attributes};
 ghost use Rattle.attr_sets.specs.declared.set.TheConstants.{MOST_ATTRIBUTES};
-ghost use Rattle.dep_model.specs.declared.schema.Schema.{Schema};
+ghost use Rattle.schema_model.specs.Schemas.{Schema};
 ghost use Rattle.dep_model.specs.Deps.{dependency_of, IsDepWithin};
-ghost use Rattle.dep_model.specs.Schemas.{universe_of};
+ghost use Rattle.schema_model.specs.Schemas.{universe_of};
 ghost use Rattle.schema_match.specs.Carried.{carry_dependency};
 ghost use Rattle.schema_match.specs.Namesakes.{AreNamesakes, IsNamesakeFrom};
 

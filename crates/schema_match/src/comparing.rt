@@ -1,5 +1,5 @@
 ghost use Rattle.std.specs.Prelude.{◌≡◌, ◌<◌, ◌↔◌, [], length, All, IfOk};
-ghost use Rattle.dep_model.specs.Schemas.{deps_of};
+ghost use Rattle.schema_model.specs.Schemas.{deps_of};
 ghost use Rattle.schema_match.specs.Columns.{IsDeclaredBy};
 ghost use Rattle.schema_match.specs.Carried.{IsImpliedBy};
 ghost use Rattle.schema_match.specs.Differences.{AreDifferences};
@@ -7,7 +7,8 @@ ghost use Rattle.schema_match.specs.Differences.{AreDifferences};
 use crate::carrying::carry_dependency;
 use crate::naming::namesakes;
 use dep_basis::is_implied;
-use dep_model::{OutOfMemory, Schema};
+use dep_model::OutOfMemory;
+use schema_model::Schema;
 use std::alloc::Global;
 
 /// The numbers, from 0 in the order of the file, of the dependencies of a schema that the other does not
@@ -21,7 +22,7 @@ pub fn differences(alloc: Global, schema: &Schema, other: &Schema) -> Result<Vec
     let attributes = namesakes(alloc, schema, other)?;
     let mut numbers = Vec::new(alloc);
     for (k, dep) in schema.deps().iter().enumerate() {
-        if !is_implied(other, carry_dependency(&attributes, *dep)) {
+        if !is_implied(&other.theory(), carry_dependency(&attributes, *dep)) {
             numbers.push(k as u16)?;
         }
     }

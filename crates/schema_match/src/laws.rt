@@ -2,10 +2,10 @@
 //! is the law; so the gate asks for its proof.
 
 ghost use Rattle.std.specs.Prelude.{◌≡◌, ◌↔◌};
-ghost use Rattle.dep_model.specs.declared.schema.Schema.{Schema};
+ghost use Rattle.schema_model.specs.Schemas.{Schema};
 ghost use Rattle.dep_model.specs.Tuples.{Relation, IsOver};
 ghost use Rattle.dep_model.specs.Dependencies.{Dependency, Obeys, IsWithin};
-ghost use Rattle.dep_model.specs.Schemas.{width_of, universe_of};
+ghost use Rattle.schema_model.specs.Schemas.{width_of, universe_of};
 ghost use Rattle.schema_match.specs.Columns.{SameNames, reorder};
 ghost use Rattle.schema_match.specs.Carried.{carry_dependency, IsImpliedBy, HaveSameLegalRelations};
 

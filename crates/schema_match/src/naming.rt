@@ -1,10 +1,11 @@
 ghost use Rattle.std.specs.Prelude.{◌<◌, ◌↔◌, IsNone, IfSome, IfOk};
 ghost use Rattle.attr_sets.specs.Attributes.{IsFirstFrom};
-ghost use Rattle.dep_model.specs.Schemas.{width_of};
+ghost use Rattle.schema_model.specs.Schemas.{width_of};
 ghost use Rattle.schema_match.specs.Columns.{undeclared_attributes, IsDeclaredBy};
 ghost use Rattle.schema_match.specs.Namesakes.{AreNamesakes};
 
-use dep_model::{OutOfMemory, Schema};
+use dep_model::OutOfMemory;
+use schema_model::Schema;
 use std::alloc::Global;
 
 /// The first attribute of a schema whose name the other does not declare, ASCII case aside.

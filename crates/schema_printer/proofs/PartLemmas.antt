@@ -7,17 +7,17 @@ use Rattle.std.specs.Prelude.{All, AllPairs, Contains, IsTrue}
 use Rattle.attr_sets.specs.Attributes.{Attributes, below, none, IsSubset, IsEmpty, count_below}
 use Rattle.attr_sets.proofs.AttributesLemmas.{tell_empty, count_below-le, count_below-pos}
 use Rattle.dep_model.specs.declared.dep.Dep.{Dep}
-use Rattle.dep_model.specs.declared.column_type.ColumnType.{ColumnType}
-use Rattle.dep_model.specs.declared.column_type.ColumnType.TheVariants.{Integer, Text}
-use Rattle.dep_model.specs.declared.naming.Naming.{Naming}
-use Rattle.dep_model.specs.declared.naming.Naming.TheVariants.{Bare}
-use Rattle.dep_model.specs.declared.schema.Schema.{Schema}
-use Rattle.dep_model.specs.Columns.{is_column_type, is_plain_type}
+use Rattle.schema_model.specs.declared.column_type.ColumnType.{ColumnType}
+use Rattle.schema_model.specs.declared.column_type.ColumnType.TheVariants.{Integer, Text}
+use Rattle.schema_model.specs.declared.naming.Naming.{Naming}
+use Rattle.schema_model.specs.declared.naming.Naming.TheVariants.{Bare}
+use Rattle.schema_model.specs.Schemas.{Schema}
+use Rattle.schema_model.specs.Columns.{is_column_type, is_plain_type}
 use Rattle.dep_model.specs.Deps.{IsDepWithin}
 use Rattle.dep_model.specs.Dependencies.{Dependency}
-use Rattle.dep_model.specs.Names.{is_bare_name, is_type_name, same_name}
-use Rattle.dep_model.specs.Schemas.{naming_of, names_of, width_of, types_of, nullable_of, universe_of}
-use Rattle.dep_model.specs.Validity.{IsSchema, AreColumns, AreBare, AreDeclared}
+use Rattle.schema_model.specs.Names.{is_bare_name, is_type_name, same_name}
+use Rattle.schema_model.specs.Schemas.{naming_of, names_of, width_of, types_of, nullable_of, universe_of}
+use Rattle.schema_model.specs.Validity.{IsSchema, AreColumns, AreBare, AreDeclared}
 use Rattle.schema_printer.specs.Printing.{schema_text, schema_lines, lines_text}
 use Rattle.schema_printer.specs.Spelling.{spelling, printed_names_of}
 use Rattle.schema_printer.specs.Parts.{chosen, part_names, part_types}

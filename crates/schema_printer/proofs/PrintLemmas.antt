@@ -3,7 +3,7 @@ use Rattle.std.proofs.Common.{◌≡◌, ◌<◌, ◌≤◌, ◌+◌, ⊎_elim, 
 use Rattle.std.specs.List.{slice_get}
 use Rattle.std.proofs.lemmas.Bool.{cases_Bool, cases_eq, eqb-true, false≢true}
 use Rattle.std.proofs.lemmas.Slice.Eq.{bytes_eq-Decides}
-use Rattle.dep_model.specs.declared.column_type.ColumnType.TheVariants.{Text, Integer, Date, Timestamp, Decimal, Uuid, Other}
+use Rattle.schema_model.specs.declared.column_type.ColumnType.TheVariants.{Text, Integer, Date, Timestamp, Decimal, Uuid, Other}
 use Rattle.std.proofs.lemmas.Bool.Decides.{nat_tests}
 use Rattle.std.proofs.lemmas.List.{drop_all}
 use Rattle.std.specs.Result.{OnOk}
@@ -12,7 +12,7 @@ use Rattle.std.proofs.lemmas.Option.{get_or_from_slice_get, slice_get_within}
 use Rattle.std.proofs.lemmas.List.{append-nil}
 use Rattle.std.specs.Prelude.{map, codes}
 use Rattle.attr_sets.specs.Attributes.{Attributes, IsEmpty, IsSubset, below}
-use Rattle.dep_model.specs.declared.column_type.ColumnType.{ColumnType}
+use Rattle.schema_model.specs.declared.column_type.ColumnType.{ColumnType}
 use Rattle.schema_printer.specs.Printing.{words_text, members_from, side_text, set_text, runs_of, in_front, run_line, lines_text, type_word, same_column, is_integer, nullable_lines, Run}
 
 -- what is still to print of a set, where a name stood before or not

@@ -2,12 +2,12 @@
 -- and the command `project`.
 use Rattle.std.specs.Prelude.{ℕ, List, [], ◌++◌, map, slice_index_or}
 use Rattle.attr_sets.specs.Attributes.{Attributes, none, intersection}
-use Rattle.dep_model.specs.declared.column_type.ColumnType.{ColumnType}
-use Rattle.dep_model.specs.declared.column_type.ColumnType.TheVariants.{Text}
-use Rattle.dep_model.specs.declared.schema.Schema.{Schema}
+use Rattle.schema_model.specs.declared.column_type.ColumnType.{ColumnType}
+use Rattle.schema_model.specs.declared.column_type.ColumnType.TheVariants.{Text}
+use Rattle.schema_model.specs.Schemas.{Schema}
 use Rattle.dep_model.specs.Dependencies.{Dependency}
 use Rattle.dep_model.specs.Projections.{members_below}
-use Rattle.dep_model.specs.Schemas.{naming_of, names_of, width_of, types_of, nullable_of}
+use Rattle.schema_model.specs.Schemas.{naming_of, names_of, width_of, types_of, nullable_of}
 use Rattle.schema_printer.specs.Printing.{dependency_text, lines_text, members_from, nullable_lines, schema_lines}
 use Rattle.schema_printer.specs.Spelling.{spelling, printed_names_of}
 

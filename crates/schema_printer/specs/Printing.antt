@@ -3,15 +3,15 @@
 use Rattle.std.specs.Prelude.{ℕ, ◌+◌, ◌==◌, Bool, true, false, if◌then◌else◌, List, [], ◌∷◌, ◌++◌, map, codes, decimal, bytes_eq}
 use Rattle.std.specs.List.{flat_map, list_any}
 use Rattle.attr_sets.specs.Attributes.{Attributes}
-use Rattle.dep_model.specs.declared.column_type.ColumnType.{ColumnType}
-use Rattle.dep_model.specs.declared.column_type.ColumnType.TheVariants.{Text, Integer, Date, Timestamp, Decimal, Uuid, Other}
-use Rattle.dep_model.specs.declared.naming.Naming.{Naming}
-use Rattle.dep_model.specs.declared.naming.Naming.TheVariants.{Bare, Any}
-use Rattle.dep_model.specs.declared.schema.Schema.{Schema}
+use Rattle.schema_model.specs.declared.column_type.ColumnType.{ColumnType}
+use Rattle.schema_model.specs.declared.column_type.ColumnType.TheVariants.{Text, Integer, Date, Timestamp, Decimal, Uuid, Other}
+use Rattle.schema_model.specs.declared.naming.Naming.{Naming}
+use Rattle.schema_model.specs.declared.naming.Naming.TheVariants.{Bare, Any}
+use Rattle.schema_model.specs.Schemas.{Schema}
 use Rattle.dep_model.specs.Dependencies.{Dependency, fd, mvd}
-use Rattle.dep_model.specs.Schemas.{naming_of, types_of, nullable_of}
+use Rattle.schema_model.specs.Schemas.{naming_of, types_of, nullable_of}
 use Rattle.schema_printer.specs.Spelling.{printed_names_of}
-use Rattle.dep_model.specs.Names.{quoted}
+use Rattle.schema_model.specs.Names.{quoted}
 
 -- words, each after a blank
 abbrev pub words_text : List (List ℕ) → List ℕ

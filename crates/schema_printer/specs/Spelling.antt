@@ -2,11 +2,11 @@
 -- that names attributes.
 use Rattle.std.specs.Prelude.{ℕ, Bool, ◌&&◌, ◌==◌, not, if◌then◌else◌, List, [], ◌∷◌, ◌++◌, map, codes}
 use Rattle.std.specs.List.{flat_map, list_any}
-use Rattle.dep_model.specs.declared.naming.Naming.{Naming}
-use Rattle.dep_model.specs.declared.naming.Naming.TheVariants.{Bare, Any}
-use Rattle.dep_model.specs.declared.schema.Schema.{Schema}
-use Rattle.dep_model.specs.Names.{is_bare_name, same_name, quoted}
-use Rattle.dep_model.specs.Schemas.{naming_of, names_of}
+use Rattle.schema_model.specs.declared.naming.Naming.{Naming}
+use Rattle.schema_model.specs.declared.naming.Naming.TheVariants.{Bare, Any}
+use Rattle.schema_model.specs.Schemas.{Schema}
+use Rattle.schema_model.specs.Names.{is_bare_name, same_name, quoted}
+use Rattle.schema_model.specs.Schemas.{naming_of, names_of}
 
 -- the words that are quoted where they are names, so that they can be words of a schema text
 abbrev pub schema_words : List (List ℕ)

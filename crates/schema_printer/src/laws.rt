@@ -2,10 +2,10 @@
 //! clauses are the law.
 
 ghost use Rattle.std.specs.Prelude.{◌≡◌, List};
-ghost use Rattle.dep_model.specs.declared.schema.Schema.{Schema};
-ghost use Rattle.dep_model.specs.declared.naming.Naming.TheVariants.{Bare};
+ghost use Rattle.schema_model.specs.Schemas.{Schema};
+ghost use Rattle.schema_model.specs.declared.naming.Naming.TheVariants.{Bare};
 ghost use Rattle.dep_model.specs.Dependencies.{Dependency};
-ghost use Rattle.dep_model.specs.Schemas.{naming_of, names_of, types_of};
+ghost use Rattle.schema_model.specs.Schemas.{naming_of, names_of, types_of};
 ghost use Rattle.schema_printer.specs.Printing.{schema_text, declared_text};
 ghost use Rattle.schema_printer.specs.Spelling.{printed_names_of};
 

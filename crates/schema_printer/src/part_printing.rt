@@ -2,13 +2,14 @@ ghost use Rattle.std.specs.Prelude.{◌≡◌, All, IfOk};
 ghost use Rattle.attr_sets.specs.Attributes.{IsSubset, IsEmpty};
 ghost use Rattle.attr_sets.specs.Sets.{attributes};
 ghost use Rattle.dep_model.specs.Deps.{dependencies_of, IsDepWithin};
-ghost use Rattle.dep_model.specs.Schemas.{universe_of};
+ghost use Rattle.schema_model.specs.Schemas.{universe_of};
 ghost use Rattle.schema_printer.specs.Parts.{part_text};
 
 use crate::parts::part_of;
 use crate::{add_deps, add_nullable, print_deps};
 use attr_sets::AttrSet;
-use dep_model::{Dep, OutOfMemory, Schema};
+use dep_model::{Dep, OutOfMemory};
+use schema_model::Schema;
 use std::alloc::Global;
 
 /// The lines that declare the attributes of a set, as a schema has them, and a line for each of these

@@ -1,12 +1,13 @@
 ghost use Rattle.std.specs.Prelude.{◌≡◌, IfOk, IsTrue, All};
 ghost use Rattle.attr_sets.specs.Attributes.{none, IsSubset, IsEmpty};
 ghost use Rattle.attr_sets.specs.Sets.{attributes};
-ghost use Rattle.dep_model.specs.Columns.{is_column_type};
-ghost use Rattle.dep_model.specs.Schemas.{naming_of, names_of, types_of, nullable_of, universe_of};
+ghost use Rattle.schema_model.specs.Columns.{is_column_type};
+ghost use Rattle.schema_model.specs.Schemas.{naming_of, names_of, types_of, nullable_of, universe_of};
 ghost use Rattle.schema_printer.specs.Parts.{part_names, part_types};
 
 use attr_sets::AttrSet;
-use dep_model::{ColumnType, Name, OutOfMemory, Schema};
+use dep_model::OutOfMemory;
+use schema_model::{ColumnType, Name, Schema};
 use std::alloc::Global;
 
 // The attributes of a set as a schema of their own, without dependencies and with no nullable one.

@@ -3,16 +3,17 @@ ghost use Rattle.std.specs.List.{list_any};
 ghost use Rattle.attr_sets.specs.Attributes.{IsSubset};
 ghost use Rattle.attr_sets.specs.Sets.{attributes};
 ghost use Rattle.dep_model.specs.Deps.{dependency_of, dependencies_of, IsDepWithin};
-ghost use Rattle.dep_model.specs.Columns.{is_column_type};
-ghost use Rattle.dep_model.specs.Schemas.{naming_of, width_of, types_of, nullable_of, universe_of};
+ghost use Rattle.schema_model.specs.Columns.{is_column_type};
+ghost use Rattle.schema_model.specs.Schemas.{naming_of, width_of, types_of, nullable_of, universe_of};
 ghost use Rattle.schema_printer.specs.Printing.{set_text, dependency_text, members_from, schema_text, schema_lines, nullable_lines, declaring_lines, lines_text, words_text, run_line, runs_of, type_word, same_column, is_integer};
 ghost use Rattle.schema_printer.specs.Spelling.{spelling, printed_names_of};
-ghost use Rattle.dep_model.specs.Names.{quoted};
+ghost use Rattle.schema_model.specs.Names.{quoted};
 
 use crate::spelling::{add_name, add_quoted};
 use attr_sets::AttrSet;
 use byte_texts::{add, add_digit};
-use dep_model::{ColumnType, Dep, Name, Naming, OutOfMemory, Schema};
+use dep_model::{Dep, OutOfMemory};
+use schema_model::{ColumnType, Name, Naming, Schema};
 use std::alloc::Global;
 
 /// The lines that declare the schema's attributes, and a line for each of these dependencies.

@@ -1,9 +1,10 @@
 ghost use Rattle.std.specs.Prelude.{◌≡◌, ℕ, List, ◌++◌, ◌∷◌, [], ◌==◌, if◌then◌else◌, OnOk};
 ghost use Rattle.schema_printer.specs.Spelling.{is_schema_word, spelling};
-ghost use Rattle.dep_model.specs.Names.{quotes_doubled, quoted};
+ghost use Rattle.schema_model.specs.Names.{quotes_doubled, quoted};
 
 use byte_texts::add;
-use dep_model::{Name, Naming, OutOfMemory, is_bare_name};
+use dep_model::OutOfMemory;
+use schema_model::{Name, Naming, is_bare_name};
 
 /// Adds a name to a text as it is printed.
 #[tactic(auto, unfolding(crate::specs::Spelling::spelling))]
@@ -32,7 +33,7 @@ pub fn add_quoted(text: &mut Vec<u8>, bytes: &[u8]) -> Result<(), OutOfMemory>
 }
 
 // Adds bytes with each double quote doubled.
-#[tactic(auto, unfolding(dep_model::specs::Names::quotes_doubled))]
+#[tactic(auto, unfolding(schema_model::specs::Names::quotes_doubled))]
 fn add_doubled(text: &mut Vec<u8>, bytes: &[u8]) -> Result<(), OutOfMemory>
     ensures added { OnOk result (text.new.items ≡ text.old.items ++ quotes_doubled bytes.now) }
 {

@@ -2,7 +2,7 @@
 -- comes next on it.
 use Rattle.std.proofs.Common.{◌≡◌, ◌<◌, ◌≤◌, ◌+◌, ◌^◌, ℕ, true, false, List, [], ◌∷◌, length, Result, ap, sym, refl, arith}
 use Rattle.attr_sets.specs.declared.set.TheConstants.{MOST_ATTRIBUTES}
-use Rattle.dep_model.specs.declared.naming.Naming.TheVariants.{Bare}
+use Rattle.schema_model.specs.declared.naming.Naming.TheVariants.{Bare}
 use Rattle.lexer.specs.Modes as mode
 use Rattle.lexer.specs.Lines.{line_texts}
 use Rattle.lexer.specs.Tokens.{Mark, lex}

@@ -3,9 +3,9 @@ ghost use Rattle.lexer.specs.Tokens.{bytes_of};
 ghost use Rattle.schema_grammar.specs.Declarations.{decimal_type, is_scale, mark_of, other_type, type_after, wanted_after};
 ghost use Rattle.schema_grammar.specs.Rests.{number_in};
 
-use dep_model::{ColumnType, MOST_SCALE, TypeName};
 use lexer::{Token, TokenKind, Word};
 use schema_grammar::{LineKind, SchemaRefusalKind, What};
+use schema_model::{ColumnType, MOST_SCALE, TypeName};
 use tokens::number_in;
 
 /// What is wanted after the word that begins a line of this kind.

@@ -1,6 +1,6 @@
 ghost use Rattle.std.specs.Prelude.{◌≡◌, ◌+◌, ◌<◌, ◌≤◌, ◌^◌, true, false, length, OnOk, IfOk, IfErr};
 ghost use Rattle.dep_model.specs.Deps.{dependency_of};
-ghost use Rattle.dep_model.specs.Names.{IsName, is_bare_name};
+ghost use Rattle.schema_model.specs.Names.{IsName, is_bare_name};
 ghost use Rattle.schema_reader.specs.Views.{reached_of};
 ghost use Rattle.lexer.specs.Tokens.{bytes_of};
 ghost use Rattle.schema_grammar.specs.Refusals.{Refuses};
@@ -10,11 +10,12 @@ use crate::goal::{follow, step};
 use crate::stage::Stage;
 use crate::words::{line_kind, line_mode};
 use attr_sets::{AttrSet, MOST_ATTRIBUTES};
-use dep_model::{ColumnType, Dep, Failure, Name, Naming, OutOfMemory};
+use dep_model::{Dep, Failure, OutOfMemory};
 use lexer::{Token, TokenKind, Word};
 use schema_grammar::{
     Format, LineKind, MOST_DEPENDENCY_LINES, Purpose, SchemaRefusal, SchemaRefusalKind, What,
 };
+use schema_model::{ColumnType, Name, Naming};
 use std::alloc::Global;
 use tokens::{Cursor, Names, NextToken, is_reserved_token, look_up, position_among};
 
@@ -144,7 +145,7 @@ impl Draft {
     }
 
     /// Takes one token of a line of names; `any_name` is whether a name stood before.
-    #[tactic(auto, using(dep_model::proofs::NameLemmas::bare_name_is_name))]
+    #[tactic(auto, using(schema_model::proofs::NameLemmas::bare_name_is_name))]
     fn name_step(
         &mut self,
         format: Format,

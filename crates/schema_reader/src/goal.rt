@@ -1,7 +1,7 @@
 ghost use Rattle.std.specs.Prelude.{◌≡◌, ◌+◌, ◌<◌, ◌≤◌, ◌^◌, length, IfOk, IfErr, Ok, Err};
 ghost use Rattle.attr_sets.specs.Attributes.{below};
 ghost use Rattle.dep_model.specs.Deps.{dependency_of, IsDepWithin};
-ghost use Rattle.dep_model.specs.Schemas.{naming_of, names_of, universe_of};
+ghost use Rattle.schema_model.specs.Schemas.{naming_of, names_of, universe_of};
 ghost use Rattle.lexer.specs.Tokens.{bytes_of};
 ghost use Rattle.schema_grammar.specs.Grammar.{finish_dependency, IsInRange};
 ghost use Rattle.schema_reader.specs.Views.{reached_of};
@@ -13,9 +13,10 @@ ghost use Rattle.schema_grammar.specs.Refusals.{at, expect};
 
 use crate::stage::{Stage, advance, finish};
 use attr_sets::MOST_ATTRIBUTES;
-use dep_model::{Dep, Schema};
+use dep_model::Dep;
 use lexer::{Mode, TokenKind, Word};
 use schema_grammar::{Format, SchemaRefusal, SchemaRefusalKind, Sign, Symbol};
+use schema_model::Schema;
 use tokens::{Cursor, Names, NextToken, look_up};
 
 /// The most bytes of a goal.

@@ -1,15 +1,16 @@
 ghost use Rattle.std.specs.Prelude.{◌≡◌, ◌≤◌, length, IfOk, IfErr};
 ghost use Rattle.attr_sets.specs.Attributes.{IsSubset};
 ghost use Rattle.attr_sets.specs.Sets.{attributes};
-ghost use Rattle.dep_model.specs.Schemas.{naming_of, names_of, universe_of};
+ghost use Rattle.schema_model.specs.Schemas.{naming_of, names_of, universe_of};
 ghost use Rattle.schema_grammar.specs.Sets.{MeansSet, RefusesSet};
 
 use crate::goal::follow;
 use crate::stage::after_arrow;
 use attr_sets::AttrSet;
-use dep_model::{Schema, sides};
+use dep_model::sides;
 use lexer::Mode;
 use schema_grammar::{Format, SchemaRefusal};
+use schema_model::Schema;
 use tokens::{Cursor, Names};
 
 /// The most bytes of a set.

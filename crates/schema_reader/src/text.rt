@@ -1,6 +1,6 @@
 ghost use Rattle.std.specs.Prelude.{All, false, ◌≡◌, ◌+◌, ◌<◌, ◌≤◌, ◌^◌, length, OnOk, IfOk, IfErr, Ok, Err};
 ghost use Rattle.dep_model.specs.Failures.{RefusesAs};
-ghost use Rattle.dep_model.specs.Schemas.{names_of, naming_of, deps_of};
+ghost use Rattle.schema_model.specs.Schemas.{names_of, naming_of, deps_of};
 ghost use Rattle.lexer.specs.Tokens.{bytes_of};
 ghost use Rattle.schema_grammar.specs.declared.format.TheConstants.{MOST_DEPENDENCY_LINES};
 ghost use Rattle.schema_grammar.specs.Words.{is_reserved};
@@ -13,9 +13,10 @@ ghost use Rattle.schema_grammar.specs.Texts.{finish, format_of_version, is_versi
 
 use crate::draft::Draft;
 use crate::words::naming_in;
-use dep_model::{Failure, Naming, Schema};
+use dep_model::Failure;
 use lexer::{Mode, TokenKind, Word, cut_line, without_mark};
 use schema_grammar::{FULL_VERSION, Format, SchemaRefusal, SchemaRefusalKind, TYPED_VERSION, What};
+use schema_model::{Naming, Schema};
 use std::alloc::Global;
 use tokens::{Cursor, NextToken, number_in};
 

@@ -3,9 +3,9 @@ ghost use Rattle.lexer.specs.Tokens.{bytes_of};
 ghost use Rattle.schema_grammar.specs.LineTokens.{line_mode, mode_of_kind, naming_in};
 ghost use Rattle.schema_grammar.specs.Words.{begun_by, line_kind, opening_words};
 
-use dep_model::{ColumnType, Naming};
 use lexer::{Mode, TokenKind, Word};
 use schema_grammar::{Format, LineKind, Purpose};
+use schema_model::{ColumnType, Naming};
 use tokens::{Cursor, NextToken};
 
 /// Which names the texts of a format declare.

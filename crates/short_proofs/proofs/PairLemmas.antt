@@ -7,10 +7,10 @@ use Rattle.std.proofs.lemmas.Bool.{cases_lt}
 use Rattle.std.proofs.lemmas.List.{length-map}
 use Rattle.std.proofs.lemmas.Option.{slice_get_within}
 use Rattle.attr_sets.specs.Attributes.{Attributes, none, union, intersection, difference}
-use Rattle.dep_model.specs.declared.schema.Schema.{Schema}
+use Rattle.dep_model.specs.Theories.{Theory}
 use Rattle.dep_model.specs.Dependencies.{Dependency}
 use Rattle.dep_model.specs.Deps.{dependency_of}
-use Rattle.dep_model.specs.Schemas.{deps_of, theory_of}
+use Rattle.dep_model.specs.Theories.{deps_of, theory_of}
 use Rattle.derivation.specs.Trees.{Tree, Step, Pair, Leaf, leaf, pair, nodes, given, replication, complementation, augmentation, maugmentation, mtransitivity, coalescence}
 use Rattle.derivation.specs.Conclusions.{Proves}
 use Rattle.basis_proofs.specs.CutProofs.{HasSize}
@@ -104,7 +104,7 @@ coalescence_long x y u k r c rule lifted cut again =
     omega (arith, one, two, three, some)
 
 -- ---- what is kept is no longer than what came before
-pub still : (s : Schema) (d : Dependency) (P : Tree → Type 0) (t u : Tree) → IsSameOrShorter s d t u → IsNoLongerThan s d P t → IsNoLongerThan s d P u
+pub still : (s : Theory) (d : Dependency) (P : Tree → Type 0) (t u : Tree) → IsSameOrShorter s d t u → IsNoLongerThan s d P t → IsNoLongerThan s d P u
 still s d P t u kept short = λ v is proves.
     let le = kept_no_longer s d t u kept in
     let first = short v is proves in
@@ -117,7 +117,7 @@ by_flags Q one two three four true false = three
 by_flags Q one two three four true true = four
 
 -- four times, for two steps that are each taken or not
-pub four_kept : (s : Schema) (d : Dependency) (P : Bool → Bool → Tree → Type 0) (t one two three four : Tree)
+pub four_kept : (s : Theory) (d : Dependency) (P : Bool → Bool → Tree → Type 0) (t one two three four : Tree)
     → IsSameOrShorter s d t one → IsNoLongerThan s d (P false false) one → IsSameOrShorter s d one two → IsNoLongerThan s d (P false true) two
     → IsSameOrShorter s d two three → IsNoLongerThan s d (P true false) three → IsSameOrShorter s d three four → IsNoLongerThan s d (P true true) four
     → IsSameOrShorter s d t four × IsNoLongerThan s d (λ v. (a b : Bool) × P a b v) four
@@ -132,7 +132,7 @@ four_kept s d P t one two three four k1 n1 k2 n2 k3 n3 k4 n4 = (
 )
 
 -- twice, for one step
-pub two_kept : (s : Schema) (d : Dependency) (P : Bool → Tree → Type 0) (t one two : Tree)
+pub two_kept : (s : Theory) (d : Dependency) (P : Bool → Tree → Type 0) (t one two : Tree)
     → IsSameOrShorter s d t one → IsNoLongerThan s d (P false) one → IsSameOrShorter s d one two → IsNoLongerThan s d (P true) two
     → IsSameOrShorter s d t two × IsNoLongerThan s d (λ v. (a : Bool) × P a v) two
 two_kept s d P t one two k1 n1 k2 n2 = (
@@ -144,7 +144,7 @@ two_kept s d P t one two k1 n1 k2 n2 = (
 )
 
 -- one round of a loop more
-pub round_kept : (s : Schema) (d : Dependency) (P : ℕ → Tree → Type 0) (i : ℕ) (t u : Tree) → IsSameOrShorter s d t u
+pub round_kept : (s : Theory) (d : Dependency) (P : ℕ → Tree → Type 0) (i : ℕ) (t u : Tree) → IsSameOrShorter s d t u
     → ((j : ℕ) → j < i → IsNoLongerThan s d (P j) t) → IsNoLongerThan s d (P i) u → (j : ℕ) → j < i + 1 → IsNoLongerThan s d (P j) u
 round_kept s d P i t u kept before now j less =
     ⊎_elim (λ earlier. still s d (P j) t u kept (before j earlier))
@@ -152,8 +152,8 @@ round_kept s d P i t u kept before now j less =
     (cases_lt j i)
 
 -- ---- numbers of dependencies
-pub given_low : (s : Schema) (j : ℕ) (e : Dependency) → slice_get (theory_of s) j ≡ Some e → j < length (deps_of s)
+pub given_low : (s : Theory) (j : ℕ) (e : Dependency) → slice_get (theory_of s) j ≡ Some e → j < length (deps_of s)
 given_low s j e found = omega (arith, slice_get_within (theory_of s) j e found, length-map (deps_of s) dependency_of)
 
-pub start_low : (s : Schema) (k : ℕ) (r c : Bool) (d : Dependency) → Proves s (start k r c) d → k < length (deps_of s)
+pub start_low : (s : Theory) (k : ℕ) (r c : Bool) (d : Dependency) → Proves s (start k r c) d → k < length (deps_of s)
 start_low s k r c d proves = shape_given s k r c false none none false false none none d proves

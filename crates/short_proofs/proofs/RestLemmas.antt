@@ -3,9 +3,9 @@ use Rattle.std.proofs.Common.{◌≡◌, ℕ, ◌+◌, ◌≤◌, Bool, true, fa
 use mathlib.Core.Path.{fun_ext}
 use Rattle.attr_sets.specs.Attributes.{Attributes, union, intersection, difference, IsSubset, Intersects}
 use Rattle.attr_sets.proofs.AttributesLemmas.{same_at}
-use Rattle.dep_model.specs.declared.schema.Schema.{Schema}
+use Rattle.dep_model.specs.Theories.{Theory}
 use Rattle.dep_model.specs.Dependencies.{fd, mvd, right_of}
-use Rattle.dep_model.specs.Schemas.{universe_of}
+use Rattle.dep_model.specs.Theories.{universe_of}
 use Rattle.derivation.specs.Trees.{Tree, step, nodes, depth, replication, complementation, maugmentation}
 use Rattle.derivation.specs.Conclusions.{Proves}
 use Rattle.derivation.proofs.ConclusionLemmas.{Proves-one}
@@ -14,7 +14,7 @@ use Rattle.short_proofs.specs.Short.{rest_of}
 use Rattle.short_proofs.specs.Shapes.{count}
 use Rattle.short_proofs.proofs.ShapeLemmas.{nodes-taken, depth-taken, count-le}
 
-pub rest_proves : (s : Schema) (x y rest : Attributes) (chain : Tree) (shared : Bool) → IsSubset x (universe_of s) → IsSubset y (universe_of s)
+pub rest_proves : (s : Theory) (x y rest : Attributes) (chain : Tree) (shared : Bool) → IsSubset x (universe_of s) → IsSubset y (universe_of s)
     → rest ≡ difference (universe_of s) (union x y) → (shared ≡ false → (k : ℕ) → x k ≡ true → y k ≡ false) → Proves s chain (fd x rest) → Proves s (rest_of x y shared chain) (mvd x y)
 rest_proves s x y rest chain false x_in y_in is apart shown =
     mvd_restated s (step complementation (step replication chain)) x (difference (universe_of s) (union x rest)) x y refl
@@ -36,7 +36,7 @@ rest_proves s x y rest chain true x_in y_in is apart shown =
     (complementation_proves s (step replication chain) x rest (fd x rest, shown, refl)))
 
 -- without what both share it proves nothing that has any of it
-pub rest_shared : (s : Schema) (x y rest : Attributes) (chain : Tree) → Proves s chain (fd x rest) → Proves s (rest_of x y false chain) (mvd x y) → Intersects x y → ⊥
+pub rest_shared : (s : Theory) (x y rest : Attributes) (chain : Tree) → Proves s chain (fd x rest) → Proves s (rest_of x y false chain) (mvd x y) → Intersects x y → ⊥
 rest_shared s x y rest chain shown proves common =
     let here = complementation_proves s (step replication chain) x rest (fd x rest, shown, refl) in
     let same = Proves-one s (rest_of x y false chain) (mvd x (difference (universe_of s) (union x rest))) (mvd x y) here proves in

@@ -10,10 +10,10 @@ use Rattle.attr_sets.specs.Sets.{is_subset}
 use Rattle.attr_sets.specs.declared.set.TheConstants.{MOST_ATTRIBUTES}
 use Rattle.attr_sets.proofs.AttributesLemmas.{all_below-true, same_at}
 use Rattle.dep_model.specs.declared.dep.Dep.{Dep}
-use Rattle.dep_model.specs.declared.schema.Schema.{Schema}
+use Rattle.dep_model.specs.Theories.{Theory}
 use Rattle.dep_model.specs.Dependencies.{Dependency, fd, mvd, left_of, right_of}
 use Rattle.dep_model.specs.Deps.{dependency_of}
-use Rattle.dep_model.specs.Schemas.{universe_of, width_of, deps_of, theory_of}
+use Rattle.dep_model.specs.Theories.{universe_of, width_of, deps_of, theory_of}
 use Rattle.derivation.specs.declared.fault.FaultKind.TheVariants.{NoSuchGiven, NotWithin}
 use Rattle.derivation.specs.Trees.{Tree, Step, leaf, step, nodes, depth, given, complementation, maugmentation, replication}
 use Rattle.derivation.specs.Table.{step_conclusion}
@@ -80,7 +80,7 @@ record IsAugmented (w z : Attributes) (e d : Dependency) : Type 0 where
   inside : (k : ℕ) → k < MOST_ATTRIBUTES → z k ≡ true → w k ≡ true
   to : d ≡ mvd (union v w) (union u z)
 
-augmented_from : (s : Schema) (w z : Attributes) (e d : Dependency) → step_conclusion s (maugmentation w z) e ≡ Ok d → IsAugmented w z e d
+augmented_from : (s : Theory) (w z : Attributes) (e d : Dependency) → step_conclusion s (maugmentation w z) e ≡ Ok d → IsAugmented w z e d
 augmented_from s w z (fd v u) d h = cc
 augmented_from s w z (mvd v u) d h =
     let passed = cond-ok (is_subset w (universe_of s) && is_subset z w) NotWithin (mvd (union v w) (union u z)) d h in
@@ -93,18 +93,18 @@ augmented_from s w z (mvd v u) d h =
       to = sym passed.1;
     }
 
-record IsComplemented (s : Schema) (e d : Dependency) : Type 0 where
+record IsComplemented (s : Theory) (e d : Dependency) : Type 0 where
   v : Attributes
   u : Attributes
   from : e ≡ mvd v u
   to : d ≡ mvd v (difference (universe_of s) (union v u))
 
-complemented_from : (s : Schema) (e d : Dependency) → step_conclusion s complementation e ≡ Ok d → IsComplemented s e d
+complemented_from : (s : Theory) (e d : Dependency) → step_conclusion s complementation e ≡ Ok d → IsComplemented s e d
 complemented_from s (fd v u) d h = cc
 complemented_from s (mvd v u) d h = record { v = v; u = u; from = refl; to = sym (the_ok (mvd v (difference (universe_of s) (union v u))) d h) }
 
 -- ---- the augmentation by just what is missing
-module _ (s : Schema) (T : Tree) (x y : Attributes) (x_in : IsSubset x (universe_of s)) (y_in : IsSubset y (universe_of s)) (v u wide narrow : Attributes)
+module _ (s : Theory) (T : Tree) (x y : Attributes) (x_in : IsSubset x (universe_of s)) (y_in : IsSubset y (universe_of s)) (v u wide narrow : Attributes)
     (narrow_is : narrow ≡ difference (intersection x y) u) (wide_is : wide ≡ union (difference x v) narrow) (from : Proves s T (mvd v u)) where
   narrow_at : (k : ℕ) → narrow k ≡ true → x k ≡ true
   narrow_at k m = let at = same_at narrow_is k in grind (arith, at, m)
@@ -143,7 +143,7 @@ module _ (s : Schema) (T : Tree) (x y : Attributes) (x_in : IsSubset x (universe
           let right_k = same_at right k in
           let left_k = same_at left k in
           let y_k : y k ≡ true = grind (arith, right_k, m) in
-          let w_k = inside k (omega (arith, s.valid.names_within_limit, ltb-true k (width_of s) (y_in k y_k))) m in
+          let w_k = inside k (omega (arith, s.valid.within_limit, ltb-true k (width_of s) (y_in k y_k))) m in
           grind (arith, left_k, w_k)
 
   -- and with one
@@ -161,10 +161,10 @@ module _ (s : Schema) (T : Tree) (x y : Attributes) (x_in : IsSubset x (universe
       z_at : (k : ℕ) → universe_of s k ≡ true → z k ≡ true → x k ≡ true
       z_at k low m =
           let left_k = same_at left k in
-          let w_k = inside k (omega (arith, s.valid.names_within_limit, ltb-true k (width_of s) low)) m in
+          let w_k = inside k (omega (arith, s.valid.within_limit, ltb-true k (width_of s) low)) m in
           grind (arith, left_k, w_k)
 
-pub just_missing : (s : Schema) (T : Tree) (e : Dependency) (a l : Bool) (w z x y wide narrow : Attributes) → IsSubset x (universe_of s) → IsSubset y (universe_of s) → Proves s T e
+pub just_missing : (s : Theory) (T : Tree) (e : Dependency) (a l : Bool) (w z x y wide narrow : Attributes) → IsSubset x (universe_of s) → IsSubset y (universe_of s) → Proves s T e
     → narrow ≡ difference (intersection x y) (right_of e) → wide ≡ union (difference x (left_of e)) narrow
     → Proves s (taken l complementation (taken a (maugmentation w z) T)) (mvd x y) → Proves s (taken l complementation (taken a (maugmentation wide narrow) T)) (mvd x y)
 just_missing s T e false l w z x y wide narrow x_in y_in from narrow_is wide_is proves = proves
@@ -189,11 +189,11 @@ just_missing s T e true true w z x y wide narrow x_in y_in from narrow_is wide_i
     (subst (Proves s T) e_is from) w z i.inside left (ap (λ (p : Attributes). difference (universe_of s) p) inside ∙ sym (ap right_of c.to))
 
 -- ---- the dependency of a shape
-taken_from : (s : Schema) (b : Bool) (rule : Step) (t : Tree) (d : Dependency) → Proves s (taken b rule t) d → (e : Dependency) × Proves s t e
+taken_from : (s : Theory) (b : Bool) (rule : Step) (t : Tree) (d : Dependency) → Proves s (taken b rule t) d → (e : Dependency) × Proves s t e
 taken_from s true rule t d proves = (proves.0, proves.1)
 taken_from s false rule t d proves = (d, proves)
 
-pub shape_start : (s : Schema) (T : Tree) (a t g : Bool) (w z w2 z2 : Attributes) (d : Dependency) → Proves s (taken g (maugmentation w2 z2) (taken t complementation (taken a (maugmentation w z) T))) d
+pub shape_start : (s : Theory) (T : Tree) (a t g : Bool) (w z w2 z2 : Attributes) (d : Dependency) → Proves s (taken g (maugmentation w2 z2) (taken t complementation (taken a (maugmentation w z) T))) d
     → (e : Dependency) × Proves s T e
 shape_start s T a t g w z w2 z2 d proves =
     let fifth = taken_from s g (maugmentation w2 z2) (taken t complementation (taken a (maugmentation w z) T)) d proves in
@@ -201,7 +201,7 @@ shape_start s T a t g w z w2 z2 d proves =
     taken_from s a (maugmentation w z) T fourth.0 fourth.1
 
 -- ---- both augmentations by just what is missing
-module _ (s : Schema) (T : Tree) (e : Dependency) (x y wide narrow : Attributes) (x_in : IsSubset x (universe_of s)) (y_in : IsSubset y (universe_of s)) (from : Proves s T e)
+module _ (s : Theory) (T : Tree) (e : Dependency) (x y wide narrow : Attributes) (x_in : IsSubset x (universe_of s)) (y_in : IsSubset y (universe_of s)) (from : Proves s T e)
     (narrow_is : narrow ≡ difference (intersection x y) (right_of e)) (wide_is : wide ≡ union (difference x (left_of e)) narrow) where
   -- what proves x ->> y does so after the augmentation by nothing
   once_more : (T' : Tree) (e' : Dependency) (v u wide' narrow' : Attributes) → Proves s T' e' → Proves s T' (mvd v u)
@@ -269,12 +269,12 @@ module _ (s : Schema) (T : Tree) (e : Dependency) (x y wide narrow : Attributes)
       let r3 = same_at (ap right_of i2.to) k in
       let n = same_at narrow_here k in
       let y_low = y_in k in
-      let z_w = λ (u_in : universe_of s k ≡ true). i.inside k (omega (arith, s.valid.names_within_limit, ltb-true k (width_of s) u_in)) in
-      let z2_w2 = λ (u_in : universe_of s k ≡ true). i2.inside k (omega (arith, s.valid.names_within_limit, ltb-true k (width_of s) u_in)) in
+      let z_w = λ (u_in : universe_of s k ≡ true). i.inside k (omega (arith, s.valid.within_limit, ltb-true k (width_of s) u_in)) in
+      let z2_w2 = λ (u_in : universe_of s k ≡ true). i2.inside k (omega (arith, s.valid.within_limit, ltb-true k (width_of s) u_in)) in
       grind (arith, l1, l2, l3, r1, r2, r3, n, y_low, z_w, z2_w2)))
 
 -- the tree before the second augmentation proves something
-pub turn_proves : (s : Schema) (T : Tree) (e : Dependency) (a t g : Bool) (w z w2 z2 x y wide narrow : Attributes) → IsSubset x (universe_of s) → IsSubset y (universe_of s) → Proves s T e
+pub turn_proves : (s : Theory) (T : Tree) (e : Dependency) (a t g : Bool) (w z w2 z2 x y wide narrow : Attributes) → IsSubset x (universe_of s) → IsSubset y (universe_of s) → Proves s T e
     → narrow ≡ difference (intersection x y) (right_of e) → wide ≡ union (difference x (left_of e)) narrow
     → Proves s (taken g (maugmentation w2 z2) (taken t complementation (taken a (maugmentation w z) T))) (mvd x y)
     → (d : Dependency) × Proves s (taken t complementation (taken a (maugmentation wide narrow) T)) d
@@ -304,7 +304,7 @@ turn_proves s T e true true true w z w2 z2 x y wide narrow x_in y_in from narrow
     )
 
 -- each shape does as well with just what is missing
-pub just_missing_twice : (s : Schema) (T : Tree) (e e' : Dependency) (a t g : Bool) (w z w2 z2 x y wide narrow wide' narrow' : Attributes) → IsSubset x (universe_of s) → IsSubset y (universe_of s) → Proves s T e
+pub just_missing_twice : (s : Theory) (T : Tree) (e e' : Dependency) (a t g : Bool) (w z w2 z2 x y wide narrow wide' narrow' : Attributes) → IsSubset x (universe_of s) → IsSubset y (universe_of s) → Proves s T e
     → narrow ≡ difference (intersection x y) (right_of e) → wide ≡ union (difference x (left_of e)) narrow
     → Proves s (taken t complementation (taken a (maugmentation wide narrow) T)) e' → narrow' ≡ difference (intersection x y) (right_of e') → wide' ≡ union (difference x (left_of e')) narrow'
     → Proves s (taken g (maugmentation w2 z2) (taken t complementation (taken a (maugmentation w z) T))) (mvd x y)
@@ -318,7 +318,7 @@ just_missing_twice s T e e' true false true w z w2 z2 x y wide narrow wide' narr
 just_missing_twice s T e e' true true true w z w2 z2 x y wide narrow wide' narrow' x_in y_in from narrow_is wide_is here narrow_is' wide_is' proves =
     turned_between s T e x y wide narrow x_in y_in from narrow_is wide_is w z w2 z2 wide' narrow' e' here narrow_is' wide_is' proves
 
-pub shape_given : (s : Schema) (k : ℕ) (r c a : Bool) (wide narrow : Attributes) (t g : Bool) (wide_again narrow_again : Attributes) (d : Dependency)
+pub shape_given : (s : Theory) (k : ℕ) (r c a : Bool) (wide narrow : Attributes) (t g : Bool) (wide_again narrow_again : Attributes) (d : Dependency)
     → Proves s (shape k r c a wide narrow t g wide_again narrow_again) d → k < length (deps_of s)
 shape_given s k r c a wide narrow t g wide_again narrow_again d proves =
     let third = shape_start s (taken c complementation (taken r replication (leaf (given k)))) a t g wide narrow wide_again narrow_again d proves in
@@ -335,7 +335,7 @@ IsMissing x y wide narrow dep =
     × IfSome dep (λ from. wide ≡ union (difference x (left_of (dependency_of from))) narrow)
 
 -- where some shape with these steps proves x ->> y, the one that is tried does
-pub shape_missed : (start turn : Option Dep) (s : Schema) (T : Tree) (a t g : Bool) (w z w2 z2 x y wide narrow wide' narrow' : Attributes) → IsSubset x (universe_of s) → IsSubset y (universe_of s)
+pub shape_missed : (start turn : Option Dep) (s : Theory) (T : Tree) (a t g : Bool) (w z w2 z2 x y wide narrow wide' narrow' : Attributes) → IsSubset x (universe_of s) → IsSubset y (universe_of s)
     → ConcludesOnly s T start → IsMissing x y wide narrow start → ConcludesOnly s (taken t complementation (taken a (maugmentation wide narrow) T)) turn → IsMissing x y wide' narrow' turn
     → Proves s (taken g (maugmentation w2 z2) (taken t complementation (taken a (maugmentation w z) T))) (mvd x y)
     → Proves s (taken g (maugmentation wide' narrow') (taken t complementation (taken a (maugmentation wide narrow) T))) (mvd x y)

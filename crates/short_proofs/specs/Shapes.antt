@@ -3,7 +3,7 @@
 use Rattle.std.specs.Prelude.{◌≡◌, ◌⊎◌, ◌≤◌, ◌<◌, ◌+◌, ℕ, Bool, true, false, Option, None, Some}
 use Rattle.attr_sets.specs.Attributes.{Attributes}
 use Rattle.attr_sets.specs.Sets.{attributes}
-use Rattle.dep_model.specs.declared.schema.Schema.{Schema}
+use Rattle.dep_model.specs.Theories.{Theory}
 use Rattle.dep_model.specs.Dependencies.{Dependency, mvd}
 use Rattle.derivation.specs.Conclusions.{Proves}
 use Rattle.derivation.specs.Direct.{IsDirect}
@@ -49,7 +49,7 @@ shape_nodes replicated complemented augmented turned again =
     1 + count replicated + count complemented + count augmented + count turned + count again
 
 -- a shape fits x ->> y: the derivation that it stands for proves it
-abbrev pub Fits : Schema → Attributes → Attributes → Shape → Type 0
+abbrev pub Fits : Theory → Attributes → Attributes → Shape → Type 0
 Fits s x y f = Proves s (tree_of_shape f) (mvd x y)
 
 -- a shape was found with this many nodes at most
@@ -58,7 +58,7 @@ HasAtMost None n = ⊥
 HasAtMost (Some f) n = shape_nodes f.replicated f.complemented f.augmented f.turned f.again ≤ n
 
 -- a shape was found that is no larger than one with these steps that proves x ->> y
-abbrev pub IsNoLarger : Schema → Attributes → Attributes → ℕ → Bool → Bool → Bool → Bool → Bool → Option Shape
+abbrev pub IsNoLarger : Theory → Attributes → Attributes → ℕ → Bool → Bool → Bool → Bool → Bool → Option Shape
     → Type 0
 IsNoLarger s x y k r c a t g found =
     (wide narrow wide_again narrow_again : Attributes)
@@ -66,10 +66,10 @@ IsNoLarger s x y k r c a t g found =
     → HasAtMost found (shape_nodes r c a t g)
 
 -- a derivation was kept, or gave way to a smaller one that is direct
-abbrev pub IsSameOrShorter : Schema → Dependency → Tree → Tree → Type 0
+abbrev pub IsSameOrShorter : Theory → Dependency → Tree → Tree → Type 0
 IsSameOrShorter s d t u = (u ≡ t) ⊎ (IsProofOf s d u × IsDirect s u × (nodes u < nodes t))
 
 -- a derivation that is answered is short
-abbrev pub IsShortAnswer : Schema → Dependency → Proof → Type 0
+abbrev pub IsShortAnswer : Theory → Dependency → Proof → Type 0
 IsShortAnswer s d (Yes b) = IsShort s d (tree_of b.value)
 IsShortAnswer s d (No agreement) = Unit {0}

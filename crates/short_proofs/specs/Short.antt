@@ -1,10 +1,10 @@
 -- Short derivations: for `implies` (`desk_implication/Implication`).
 use Rattle.std.specs.Prelude.{◌≡◌, ◌⊎◌, ◌≤◌, ℕ, Bool, true, false, if◌then◌else◌, Some, slice_get}
 use Rattle.attr_sets.specs.Attributes.{Attributes, none, union, intersection, difference, IsSubset, Disjoint}
-use Rattle.dep_model.specs.declared.schema.Schema.{Schema}
+use Rattle.dep_model.specs.Theories.{Theory}
 use Rattle.dep_model.specs.Dependencies.{Dependency, fd, mvd, left_of, right_of, functional_part}
 use Rattle.dep_model.specs.Implication.{Implies}
-use Rattle.dep_model.specs.Schemas.{universe_of, width_of, theory_of}
+use Rattle.dep_model.specs.Theories.{universe_of, width_of, theory_of}
 use Rattle.derivation.specs.Trees.{Tree, leaf, step, pair, nodes, Step, given, reflexivity, augmentation, complementation, maugmentation, replication, transitivity, mtransitivity, coalescence}
 use Rattle.derivation.specs.Conclusions.{Proves}
 use Rattle.derivation.specs.Chains.{IsFunctionalChain}
@@ -80,7 +80,7 @@ FitBeyond b (mvd x y) w e =
 FitBeyond b (fd x y) w (mvd l u) = ⊥
 FitBeyond b (fd x y) w (fd l u) = Disjoint l w × IsSubset (difference y x) w × IsSubset (difference y x) u
 
-abbrev pub SetsFit : Schema → Dependency → Attributes → Dependency → Type 0
+abbrev pub SetsFit : Theory → Dependency → Attributes → Dependency → Type 0
 SetsFit s d w e = FitBeyond (difference (universe_of s) (union w (left_of d))) d w e
 
 -- such trees of two dependencies: from a tree of x ->> w, and of dependency j
@@ -99,18 +99,18 @@ abbrev pub IsJoinedTree : Dependency → Tree → Attributes → ℕ → Depende
 IsJoinedTree (mvd x y) first w j e t = IsTransitivity x y first w j t
 IsJoinedTree (fd x y) first w j e t = IsCoalescence x y (right_of e) first j t
 
-abbrev pub IsJoinedBy : Schema → Dependency → Tree → Attributes → ℕ → Tree → Type 0
+abbrev pub IsJoinedBy : Theory → Dependency → Tree → Attributes → ℕ → Tree → Type 0
 IsJoinedBy s d first w j t =
     (e : Dependency) × (slice_get (theory_of s) j ≡ Some e) × SetsFit s d w e × IsJoinedTree d first w j e t
 
 -- the same, where the first is v ->> w with v in the left side of the goal
-abbrev pub IsJoinedFrom : Schema → Dependency → Tree → Tree → Type 0
+abbrev pub IsJoinedFrom : Theory → Dependency → Tree → Tree → Type 0
 IsJoinedFrom s d first t =
     (v w : Attributes) × Proves s first (mvd v w) × IsSubset v (left_of d)
     × ((j : ℕ) × IsJoinedBy s d first w j t)
 
 -- a tree of two dependencies that are joined
-abbrev pub IsJoined : Schema → Dependency → Tree → Type 0
+abbrev pub IsJoined : Theory → Dependency → Tree → Type 0
 IsJoined s d t =
     (k : ℕ) × ((replicated complemented : Bool) × IsJoinedFrom s d (start k replicated complemented) t)
 
@@ -118,7 +118,7 @@ IsJoined s d t =
 -- dependency after a few steps; the functional chain of x -> y, and replication; and that of x and what is
 -- neither in x nor in y, replicated and complemented. Of a functional goal that the functional part alone
 -- implies, none
-abbrev pub IsListed : Schema → Dependency → Tree → Type 0
+abbrev pub IsListed : Theory → Dependency → Tree → Type 0
 IsListed s (fd x y) t =
     (Implies (width_of s) (functional_part (theory_of s)) (fd x y) → ⊥) × IsJoined s (fd x y) t
 IsListed s (mvd x y) t =
@@ -129,8 +129,8 @@ IsListed s (mvd x y) t =
     ⊎ IsJoined s (mvd x y) t
 
 -- a tree is no longer than any of these that proves the dependency
-abbrev pub IsNoLongerThan : Schema → Dependency → (Tree → Type 0) → Tree → Type 0
+abbrev pub IsNoLongerThan : Theory → Dependency → (Tree → Type 0) → Tree → Type 0
 IsNoLongerThan s d P t = (u : Tree) → P u → Proves s u d → nodes t ≤ nodes u
 
-abbrev pub IsShort : Schema → Dependency → Tree → Type 0
+abbrev pub IsShort : Theory → Dependency → Tree → Type 0
 IsShort s d t = IsNoLongerThan s d (IsListed s d) t

@@ -11,50 +11,50 @@ ghost use Rattle.short_proofs.specs.Shapes.{IsSameOrShorter, tree_of_halves};
 use crate::keeping::{is_no_longer, unless_other};
 use crate::pairs::{Half, Halves, Transit, difference_deriv, difference_size};
 use crate::starts::Start;
-use dep_model::{Dep, OutOfMemory, Schema};
+use dep_model::{Dep, OutOfMemory, Theory};
 use derivation::Deriv;
 use std::alloc::Global;
 
 /// A derivation of a multivalued goal, unless one of these with dependency `number` is shorter.
 pub fn unless_difference(
     alloc: Global,
-    schema: &Schema,
+    theory: &Theory,
     half: Half,
     number: u16,
     deriv: Box<Deriv>,
 ) -> Result<Box<Deriv>, OutOfMemory>
-    requires proof { IsProofOf schema.now (mvd (attributes half.lhs) (attributes half.rhs))
+    requires proof { IsProofOf theory.now (mvd (attributes half.lhs) (attributes half.rhs))
         (tree_of deriv.value) }
-    ensures kept { IfOk result (λ b. IsSameOrShorter schema.now (mvd (attributes half.lhs) (attributes half.rhs))
+    ensures kept { IfOk result (λ b. IsSameOrShorter theory.now (mvd (attributes half.lhs) (attributes half.rhs))
         (tree_of deriv.value) (tree_of b.value)) }
-    ensures short { IfOk result (λ b. IsNoLongerThan schema.now
+    ensures short { IfOk result (λ b. IsNoLongerThan theory.now
         (mvd (attributes half.lhs) (attributes half.rhs))
         (IsTransitivity (attributes half.lhs) (attributes half.rhs)
         (start half.first.number half.first.replicated half.first.complemented)
         (attributes half.middle) number) (tree_of b.value)) }
 {
-    let one = unless_second(alloc, schema, half, number, false, false, deriv)?;
-    let two = unless_second(alloc, schema, half, number, false, true, one)?;
-    let three = unless_second(alloc, schema, half, number, true, false, two)?;
-    let four = unless_second(alloc, schema, half, number, true, true, three)?;
+    let one = unless_second(alloc, theory, half, number, false, false, deriv)?;
+    let two = unless_second(alloc, theory, half, number, false, true, one)?;
+    let three = unless_second(alloc, theory, half, number, true, false, two)?;
+    let four = unless_second(alloc, theory, half, number, true, true, three)?;
     Ok(four)
 }
 
 // The same where this dependency is replicated or complemented, or not.
 fn unless_second(
     alloc: Global,
-    schema: &Schema,
+    theory: &Theory,
     half: Half,
     number: u16,
     replicated: bool,
     complemented: bool,
     deriv: Box<Deriv>,
 ) -> Result<Box<Deriv>, OutOfMemory>
-    requires proof { IsProofOf schema.now (mvd (attributes half.lhs) (attributes half.rhs))
+    requires proof { IsProofOf theory.now (mvd (attributes half.lhs) (attributes half.rhs))
         (tree_of deriv.value) }
-    ensures kept { IfOk result (λ b. IsSameOrShorter schema.now (mvd (attributes half.lhs) (attributes half.rhs))
+    ensures kept { IfOk result (λ b. IsSameOrShorter theory.now (mvd (attributes half.lhs) (attributes half.rhs))
         (tree_of deriv.value) (tree_of b.value)) }
-    ensures short { IfOk result (λ b. IsNoLongerThan schema.now
+    ensures short { IfOk result (λ b. IsNoLongerThan theory.now
         (mvd (attributes half.lhs) (attributes half.rhs))
         (λ u. (lifted widened : Bool) × ((turned again : Bool)
         × (u ≡ transitivity_of (attributes half.lhs) (attributes half.rhs) (attributes half.middle)
@@ -66,63 +66,63 @@ fn unless_second(
         replicated,
         complemented,
     };
-    unless_halves(alloc, schema, Halves { half, second }, deriv)
+    unless_halves(alloc, theory, Halves { half, second }, deriv)
 }
 
 // The same of two halves: what is added to the first, and to the second.
 fn unless_halves(
     alloc: Global,
-    schema: &Schema,
+    theory: &Theory,
     halves: Halves,
     deriv: Box<Deriv>,
 ) -> Result<Box<Deriv>, OutOfMemory>
-    requires proof { IsProofOf schema.now (mvd (attributes halves.half.lhs) (attributes halves.half.rhs))
+    requires proof { IsProofOf theory.now (mvd (attributes halves.half.lhs) (attributes halves.half.rhs))
         (tree_of deriv.value) }
-    ensures kept { IfOk result (λ b. IsSameOrShorter schema.now
+    ensures kept { IfOk result (λ b. IsSameOrShorter theory.now
         (mvd (attributes halves.half.lhs) (attributes halves.half.rhs))
         (tree_of deriv.value) (tree_of b.value)) }
-    ensures short { IfOk result (λ b. IsNoLongerThan schema.now
+    ensures short { IfOk result (λ b. IsNoLongerThan theory.now
         (mvd (attributes halves.half.lhs) (attributes halves.half.rhs))
         (λ u. (lifted widened : Bool) × ((turned again : Bool)
         × (u ≡ tree_of_halves halves lifted widened turned again))) (tree_of b.value)) }
 {
-    let one = unless_ended(alloc, schema, halves, false, false, deriv)?;
-    let two = unless_ended(alloc, schema, halves, false, true, one)?;
-    let three = unless_ended(alloc, schema, halves, true, false, two)?;
-    let four = unless_ended(alloc, schema, halves, true, true, three)?;
+    let one = unless_ended(alloc, theory, halves, false, false, deriv)?;
+    let two = unless_ended(alloc, theory, halves, false, true, one)?;
+    let three = unless_ended(alloc, theory, halves, true, false, two)?;
+    let four = unless_ended(alloc, theory, halves, true, true, three)?;
     Ok(four)
 }
 
 // The same where these are added: what comes last.
 fn unless_ended(
     alloc: Global,
-    schema: &Schema,
+    theory: &Theory,
     halves: Halves,
     lifted: bool,
     widened: bool,
     deriv: Box<Deriv>,
 ) -> Result<Box<Deriv>, OutOfMemory>
-    requires proof { IsProofOf schema.now (mvd (attributes halves.half.lhs) (attributes halves.half.rhs))
+    requires proof { IsProofOf theory.now (mvd (attributes halves.half.lhs) (attributes halves.half.rhs))
         (tree_of deriv.value) }
-    ensures kept { IfOk result (λ b. IsSameOrShorter schema.now
+    ensures kept { IfOk result (λ b. IsSameOrShorter theory.now
         (mvd (attributes halves.half.lhs) (attributes halves.half.rhs))
         (tree_of deriv.value) (tree_of b.value)) }
-    ensures short { IfOk result (λ b. IsNoLongerThan schema.now
+    ensures short { IfOk result (λ b. IsNoLongerThan theory.now
         (mvd (attributes halves.half.lhs) (attributes halves.half.rhs))
         (λ u. (turned again : Bool) × (u ≡ tree_of_halves halves lifted widened turned again))
         (tree_of b.value)) }
 {
-    let one = unless_transit(alloc, schema, halves, lifted, widened, false, false, deriv)?;
-    let two = unless_transit(alloc, schema, halves, lifted, widened, false, true, one)?;
-    let three = unless_transit(alloc, schema, halves, lifted, widened, true, false, two)?;
-    let four = unless_transit(alloc, schema, halves, lifted, widened, true, true, three)?;
+    let one = unless_transit(alloc, theory, halves, lifted, widened, false, false, deriv)?;
+    let two = unless_transit(alloc, theory, halves, lifted, widened, false, true, one)?;
+    let three = unless_transit(alloc, theory, halves, lifted, widened, true, false, two)?;
+    let four = unless_transit(alloc, theory, halves, lifted, widened, true, true, three)?;
     Ok(four)
 }
 
 // The same of one way to join them.
 fn unless_transit(
     alloc: Global,
-    schema: &Schema,
+    theory: &Theory,
     halves: Halves,
     lifted: bool,
     widened: bool,
@@ -130,12 +130,12 @@ fn unless_transit(
     again: bool,
     deriv: Box<Deriv>,
 ) -> Result<Box<Deriv>, OutOfMemory>
-    requires proof { IsProofOf schema.now (mvd (attributes halves.half.lhs) (attributes halves.half.rhs))
+    requires proof { IsProofOf theory.now (mvd (attributes halves.half.lhs) (attributes halves.half.rhs))
         (tree_of deriv.value) }
-    ensures kept { IfOk result (λ b. IsSameOrShorter schema.now
+    ensures kept { IfOk result (λ b. IsSameOrShorter theory.now
         (mvd (attributes halves.half.lhs) (attributes halves.half.rhs))
         (tree_of deriv.value) (tree_of b.value)) }
-    ensures short { IfOk result (λ b. IsNoLongerThan schema.now
+    ensures short { IfOk result (λ b. IsNoLongerThan theory.now
         (mvd (attributes halves.half.lhs) (attributes halves.half.rhs))
         (λ u. u ≡ tree_of_halves halves lifted widened turned again) (tree_of b.value)) }
 {
@@ -150,5 +150,5 @@ fn unless_transit(
         return Ok(deriv);
     }
     let other = difference_deriv(alloc, halves, by)?;
-    Ok(unless_other(schema, Dep::Mvd { lhs, rhs }, deriv, other))
+    Ok(unless_other(theory, Dep::Mvd { lhs, rhs }, deriv, other))
 }

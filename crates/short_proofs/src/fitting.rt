@@ -5,19 +5,19 @@ ghost use Rattle.attr_sets.specs.Attributes.{Attributes, union, difference, IsSu
 ghost use Rattle.attr_sets.specs.Sets.{attributes};
 ghost use Rattle.dep_model.specs.Dependencies.{Dependency, fd, mvd, left_of};
 ghost use Rattle.dep_model.specs.Deps.{dependency_of, dependencies_of};
-ghost use Rattle.dep_model.specs.Schemas.{universe_of, theory_of};
+ghost use Rattle.dep_model.specs.Theories.{universe_of, theory_of};
 ghost use Rattle.short_proofs.specs.Short.{Agrees, IsOneSided, FitBeyond, SetsFit};
 
 use attr_sets::AttrSet;
-use dep_model::{Dep, Schema, sides};
+use dep_model::{Dep, Theory, sides};
 
 /// Whether a dependency that concludes `left ->> middle` may begin a derivation of the goal; not, only
 /// where the sets of no second one fit.
-pub fn may_begin(schema: &Schema, goal: Dep, left: AttrSet, middle: AttrSet) -> bool
+pub fn may_begin(theory: &Theory, goal: Dep, left: AttrSet, middle: AttrSet) -> bool
     ensures none { (j : ℕ) (e : Dependency) → result ≡ false
         → IsSubset (attributes left) (left_of (dependency_of goal))
-        → slice_get (theory_of schema.now) j ≡ Some e
-        → SetsFit schema.now (dependency_of goal) (attributes middle) e → ⊥ }
+        → slice_get (theory_of theory.now) j ≡ Some e
+        → SetsFit theory.now (dependency_of goal) (attributes middle) e → ⊥ }
 {
     let (whole, _) = sides(goal);
     if !left.is_subset(whole) {
@@ -26,8 +26,8 @@ pub fn may_begin(schema: &Schema, goal: Dep, left: AttrSet, middle: AttrSet) -> 
     if cuts_both(goal, middle) {
         return false;
     }
-    let rest = beyond(schema, whole, middle);
-    any_fits(schema.deps(), goal, middle, rest)
+    let rest = beyond(theory, whole, middle);
+    any_fits(theory.deps(), goal, middle, rest)
 }
 
 // Whether `middle` has some of what a multivalued goal wants and some of what it does not.
@@ -42,11 +42,11 @@ fn cuts_both(goal: Dep, middle: AttrSet) -> bool
 }
 
 /// What is in neither of two sets.
-pub fn beyond(schema: &Schema, lhs: AttrSet, middle: AttrSet) -> AttrSet
+pub fn beyond(theory: &Theory, lhs: AttrSet, middle: AttrSet) -> AttrSet
     ensures members { attributes result
-        ≡ difference (universe_of schema.now) (union (attributes middle) (attributes lhs)) }
+        ≡ difference (universe_of theory.now) (union (attributes middle) (attributes lhs)) }
 {
-    AttrSet::full(schema.width()).difference(middle.union(lhs))
+    AttrSet::full(theory.width()).difference(middle.union(lhs))
 }
 
 // Whether the sets of some dependency fit.

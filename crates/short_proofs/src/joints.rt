@@ -18,26 +18,26 @@ use crate::pairs::{Half, Merged};
 use crate::shapes::given_dep;
 use crate::starts::{Start, start_dep};
 use attr_sets::AttrSet;
-use dep_model::{Dep, OutOfMemory, Schema, sides};
+use dep_model::{Dep, OutOfMemory, Theory, sides};
 use derivation::Deriv;
 use std::alloc::Global;
 
 /// A derivation, unless one of two joined dependencies is shorter.
 pub fn unless_joined(
     alloc: Global,
-    schema: &Schema,
+    theory: &Theory,
     goal: Dep,
     deriv: Box<Deriv>,
 ) -> Result<Box<Deriv>, OutOfMemory>
-    requires proof { IsProofOf schema.now (dependency_of goal) (tree_of deriv.value) }
-    ensures kept { IfOk result (λ b. IsSameOrShorter schema.now (dependency_of goal)
+    requires proof { IsProofOf theory.now (dependency_of goal) (tree_of deriv.value) }
+    ensures kept { IfOk result (λ b. IsSameOrShorter theory.now (dependency_of goal)
         (tree_of deriv.value) (tree_of b.value)) }
-    ensures short { IfOk result (λ b. IsNoLongerThan schema.now (dependency_of goal)
-        (IsJoined schema.now (dependency_of goal)) (tree_of b.value)) }
+    ensures short { IfOk result (λ b. IsNoLongerThan theory.now (dependency_of goal)
+        (IsJoined theory.now (dependency_of goal)) (tree_of b.value)) }
 {
     let mut best = deriv;
-    for number in 0..schema.deps().len() {
-        best = unless_begun(alloc, schema, goal, number as u16, best)?;
+    for number in 0..theory.deps().len() {
+        best = unless_begun(alloc, theory, goal, number as u16, best)?;
     }
     Ok(best)
 }
@@ -45,40 +45,40 @@ pub fn unless_joined(
 // The same of one dependency that begins, replicated and complemented or not.
 fn unless_begun(
     alloc: Global,
-    schema: &Schema,
+    theory: &Theory,
     goal: Dep,
     number: u16,
     deriv: Box<Deriv>,
 ) -> Result<Box<Deriv>, OutOfMemory>
-    requires proof { IsProofOf schema.now (dependency_of goal) (tree_of deriv.value) }
-    ensures kept { IfOk result (λ b. IsSameOrShorter schema.now (dependency_of goal)
+    requires proof { IsProofOf theory.now (dependency_of goal) (tree_of deriv.value) }
+    ensures kept { IfOk result (λ b. IsSameOrShorter theory.now (dependency_of goal)
         (tree_of deriv.value) (tree_of b.value)) }
-    ensures short { IfOk result (λ b. IsNoLongerThan schema.now (dependency_of goal)
-        (λ u. (r c : Bool) × IsJoinedFrom schema.now (dependency_of goal) (start number r c) u)
+    ensures short { IfOk result (λ b. IsNoLongerThan theory.now (dependency_of goal)
+        (λ u. (r c : Bool) × IsJoinedFrom theory.now (dependency_of goal) (start number r c) u)
         (tree_of b.value)) }
 {
-    let one = unless_start(alloc, schema, goal, number, false, false, deriv)?;
-    let two = unless_start(alloc, schema, goal, number, false, true, one)?;
-    let three = unless_start(alloc, schema, goal, number, true, false, two)?;
-    let four = unless_start(alloc, schema, goal, number, true, true, three)?;
+    let one = unless_start(alloc, theory, goal, number, false, false, deriv)?;
+    let two = unless_start(alloc, theory, goal, number, false, true, one)?;
+    let three = unless_start(alloc, theory, goal, number, true, false, two)?;
+    let four = unless_start(alloc, theory, goal, number, true, true, three)?;
     Ok(four)
 }
 
 // The same of what begins.
 fn unless_start(
     alloc: Global,
-    schema: &Schema,
+    theory: &Theory,
     goal: Dep,
     number: u16,
     replicated: bool,
     complemented: bool,
     deriv: Box<Deriv>,
 ) -> Result<Box<Deriv>, OutOfMemory>
-    requires proof { IsProofOf schema.now (dependency_of goal) (tree_of deriv.value) }
-    ensures kept { IfOk result (λ b. IsSameOrShorter schema.now (dependency_of goal)
+    requires proof { IsProofOf theory.now (dependency_of goal) (tree_of deriv.value) }
+    ensures kept { IfOk result (λ b. IsSameOrShorter theory.now (dependency_of goal)
         (tree_of deriv.value) (tree_of b.value)) }
-    ensures short { IfOk result (λ b. IsNoLongerThan schema.now (dependency_of goal)
-        (IsJoinedFrom schema.now (dependency_of goal) (start number replicated complemented))
+    ensures short { IfOk result (λ b. IsNoLongerThan theory.now (dependency_of goal)
+        (IsJoinedFrom theory.now (dependency_of goal) (start number replicated complemented))
         (tree_of b.value)) }
 {
     let first = Start {
@@ -86,9 +86,9 @@ fn unless_start(
         replicated,
         complemented,
     };
-    match start_dep(schema, first) {
+    match start_dep(theory, first) {
         Some(Dep::Mvd { lhs, rhs }) => {
-            let after = unless_after(alloc, schema, goal, first, lhs, rhs, deriv)?;
+            let after = unless_after(alloc, theory, goal, first, lhs, rhs, deriv)?;
             Ok(after)
         }
         _ => Ok(deriv),
@@ -98,28 +98,28 @@ fn unless_start(
 // The same of what begins and concludes `left ->> middle`.
 fn unless_after(
     alloc: Global,
-    schema: &Schema,
+    theory: &Theory,
     goal: Dep,
     first: Start,
     left: AttrSet,
     middle: AttrSet,
     deriv: Box<Deriv>,
 ) -> Result<Box<Deriv>, OutOfMemory>
-    requires proof { IsProofOf schema.now (dependency_of goal) (tree_of deriv.value) }
-    ensures kept { IfOk result (λ b. IsSameOrShorter schema.now (dependency_of goal)
+    requires proof { IsProofOf theory.now (dependency_of goal) (tree_of deriv.value) }
+    ensures kept { IfOk result (λ b. IsSameOrShorter theory.now (dependency_of goal)
         (tree_of deriv.value) (tree_of b.value)) }
-    ensures short { IfOk result (λ b. IsNoLongerThan schema.now (dependency_of goal)
+    ensures short { IfOk result (λ b. IsNoLongerThan theory.now (dependency_of goal)
         (λ u. IsSubset (attributes left) (left_of (dependency_of goal))
-        × ((j : ℕ) × IsJoinedBy schema.now (dependency_of goal)
+        × ((j : ℕ) × IsJoinedBy theory.now (dependency_of goal)
         (start first.number first.replicated first.complemented) (attributes middle) j u))
         (tree_of b.value)) }
 {
-    if !may_begin(schema, goal, left, middle) {
+    if !may_begin(theory, goal, left, middle) {
         return Ok(deriv);
     }
     let mut best = deriv;
-    for number in 0..schema.deps().len() {
-        best = unless_pair(alloc, schema, goal, first, middle, number as u16, best)?;
+    for number in 0..theory.deps().len() {
+        best = unless_pair(alloc, theory, goal, first, middle, number as u16, best)?;
     }
     Ok(best)
 }
@@ -127,24 +127,24 @@ fn unless_after(
 // The same of two dependencies, where their sets fit.
 fn unless_pair(
     alloc: Global,
-    schema: &Schema,
+    theory: &Theory,
     goal: Dep,
     first: Start,
     middle: AttrSet,
     number: u16,
     deriv: Box<Deriv>,
 ) -> Result<Box<Deriv>, OutOfMemory>
-    requires proof { IsProofOf schema.now (dependency_of goal) (tree_of deriv.value) }
-    ensures kept { IfOk result (λ b. IsSameOrShorter schema.now (dependency_of goal)
+    requires proof { IsProofOf theory.now (dependency_of goal) (tree_of deriv.value) }
+    ensures kept { IfOk result (λ b. IsSameOrShorter theory.now (dependency_of goal)
         (tree_of deriv.value) (tree_of b.value)) }
-    ensures short { IfOk result (λ b. IsNoLongerThan schema.now (dependency_of goal)
-        (IsJoinedBy schema.now (dependency_of goal)
+    ensures short { IfOk result (λ b. IsNoLongerThan theory.now (dependency_of goal)
+        (IsJoinedBy theory.now (dependency_of goal)
         (start first.number first.replicated first.complemented) (attributes middle) number)
         (tree_of b.value)) }
 {
-    match given_dep(schema, number) {
+    match given_dep(theory, number) {
         Some(dep) => {
-            let after = unless_given(alloc, schema, goal, first, middle, number, dep, deriv)?;
+            let after = unless_given(alloc, theory, goal, first, middle, number, dep, deriv)?;
             Ok(after)
         }
         None => Ok(deriv),
@@ -154,7 +154,7 @@ fn unless_pair(
 // The same where `dep` is the second one.
 fn unless_given(
     alloc: Global,
-    schema: &Schema,
+    theory: &Theory,
     goal: Dep,
     first: Start,
     middle: AttrSet,
@@ -162,16 +162,16 @@ fn unless_given(
     dep: Dep,
     deriv: Box<Deriv>,
 ) -> Result<Box<Deriv>, OutOfMemory>
-    requires proof { IsProofOf schema.now (dependency_of goal) (tree_of deriv.value) }
-    ensures kept { IfOk result (λ b. IsSameOrShorter schema.now (dependency_of goal)
+    requires proof { IsProofOf theory.now (dependency_of goal) (tree_of deriv.value) }
+    ensures kept { IfOk result (λ b. IsSameOrShorter theory.now (dependency_of goal)
         (tree_of deriv.value) (tree_of b.value)) }
-    ensures short { IfOk result (λ b. IsNoLongerThan schema.now (dependency_of goal)
-        (λ u. SetsFit schema.now (dependency_of goal) (attributes middle) (dependency_of dep)
+    ensures short { IfOk result (λ b. IsNoLongerThan theory.now (dependency_of goal)
+        (λ u. SetsFit theory.now (dependency_of goal) (attributes middle) (dependency_of dep)
         × IsJoinedTree (dependency_of goal) (start first.number first.replicated first.complemented)
         (attributes middle) number (dependency_of dep) u) (tree_of b.value)) }
 {
     let (whole, _) = sides(goal);
-    if !fits(goal, middle, beyond(schema, whole, middle), dep) {
+    if !fits(goal, middle, beyond(theory, whole, middle), dep) {
         return Ok(deriv);
     }
     let (_, right) = sides(dep);
@@ -183,7 +183,7 @@ fn unless_given(
                 first,
                 middle,
             };
-            let joined = unless_difference(alloc, schema, half, number, deriv)?;
+            let joined = unless_difference(alloc, theory, half, number, deriv)?;
             Ok(joined)
         }
         Dep::Fd { lhs, rhs } => {
@@ -194,7 +194,7 @@ fn unless_given(
                 number,
                 right,
             };
-            let joined = unless_coalescence(alloc, schema, merged, deriv)?;
+            let joined = unless_coalescence(alloc, theory, merged, deriv)?;
             Ok(joined)
         }
     }

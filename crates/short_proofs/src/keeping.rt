@@ -12,19 +12,19 @@ ghost use Rattle.basis_proofs.specs.JoinedProofs.{IsProofOf};
 ghost use Rattle.short_proofs.specs.Short.{IsNoLongerThan};
 ghost use Rattle.short_proofs.specs.Shapes.{IsSameOrShorter};
 
-use dep_model::{Dep, Schema};
+use dep_model::{Dep, Theory};
 use derivation::{Deriv, conclude, nodes, same_dep, shorten};
 
 // The first of two derivations of the same, unless the second one is shorter once what it says twice is
 // left out.
-pub fn shorter(schema: &Schema, deriv: Box<Deriv>, other: Box<Deriv>) -> Box<Deriv>
+pub fn shorter(theory: &Theory, deriv: Box<Deriv>, other: Box<Deriv>) -> Box<Deriv>
     requires fits_u32 { nodes (tree_of deriv.value) < 2 ^ 32 }
     requires small { HasSize (tree_of other.value) MOST_NODES MOST_LEVELS }
-    ensures kept { (d : Dependency) → Proves schema.now (tree_of other.value) d
-        → IsSameOrShorter schema.now d (tree_of deriv.value) (tree_of result.value) }
+    ensures kept { (d : Dependency) → Proves theory.now (tree_of other.value) d
+        → IsSameOrShorter theory.now d (tree_of deriv.value) (tree_of result.value) }
     ensures than_other { nodes (tree_of result.value) ≤ nodes (tree_of other.value) }
 {
-    let short = shorten(schema, other);
+    let short = shorten(theory, other);
     if nodes(&short) < nodes(&deriv) {
         short
     } else {
@@ -33,17 +33,17 @@ pub fn shorter(schema: &Schema, deriv: Box<Deriv>, other: Box<Deriv>) -> Box<Der
 }
 
 // A derivation of a goal, unless another one proves it and is shorter.
-pub fn unless_other(schema: &Schema, goal: Dep, deriv: Box<Deriv>, other: Box<Deriv>) -> Box<Deriv>
-    requires proof { IsProofOf schema.now (dependency_of goal) (tree_of deriv.value) }
+pub fn unless_other(theory: &Theory, goal: Dep, deriv: Box<Deriv>, other: Box<Deriv>) -> Box<Deriv>
+    requires proof { IsProofOf theory.now (dependency_of goal) (tree_of deriv.value) }
     requires small { HasSize (tree_of other.value) 16 16 }
-    ensures kept { IsSameOrShorter schema.now (dependency_of goal) (tree_of deriv.value) (tree_of result.value) }
-    ensures short { IsNoLongerThan schema.now (dependency_of goal) (λ u. u ≡ tree_of other.value)
+    ensures kept { IsSameOrShorter theory.now (dependency_of goal) (tree_of deriv.value) (tree_of result.value) }
+    ensures short { IsNoLongerThan theory.now (dependency_of goal) (λ u. u ≡ tree_of other.value)
         (tree_of result.value) }
 {
-    match conclude(schema, &other) {
+    match conclude(theory, &other) {
         Ok(dep) => {
             if same_dep(dep, goal) {
-                shorter(schema, deriv, other)
+                shorter(theory, deriv, other)
             } else {
                 deriv
             }

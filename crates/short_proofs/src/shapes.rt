@@ -5,8 +5,8 @@ ghost use Rattle.attr_sets.specs.Attributes.{union, intersection, difference, Is
 ghost use Rattle.attr_sets.specs.Sets.{attributes};
 ghost use Rattle.dep_model.specs.Dependencies.{mvd, left_of, right_of};
 ghost use Rattle.dep_model.specs.Deps.{dependency_of};
-ghost use Rattle.dep_model.specs.Schemas.{universe_of};
-ghost use Rattle.dep_model.specs.declared.schema.Schema.{Schema as Declared};
+ghost use Rattle.dep_model.specs.Theories.{universe_of};
+ghost use Rattle.dep_model.specs.Theories.{Theory as Declared};
 ghost use Rattle.derivation.specs.Trees.{Tree, leaf, given, maugmentation};
 ghost use Rattle.derivation.specs.Derivs.{tree_of, step_of};
 ghost use Rattle.derivation.specs.Conclusions.{Proves};
@@ -15,7 +15,7 @@ ghost use Rattle.short_proofs.specs.Short.{taken};
 ghost use Rattle.short_proofs.specs.Shapes.{tree_of_shape, count, shape_nodes, Fits, HasAtMost, IsNoLarger};
 
 use attr_sets::AttrSet;
-use dep_model::{Dep, OutOfMemory, Schema, sides};
+use dep_model::{Dep, OutOfMemory, Theory, sides};
 use derivation::{Deriv, LeafRule, StepRule, leaf_conclusion, step_conclusion};
 use std::alloc::Global;
 
@@ -56,33 +56,33 @@ struct Sides {
 // The shape with these steps, where it proves `lhs ->> rhs`. Its augmentations add what is missing of both
 // sides, and no more.
 pub fn try_shape(
-    schema: &Schema,
+    theory: &Theory,
     lhs: AttrSet,
     rhs: AttrSet,
     number: u16,
     steps: Steps,
 ) -> Option<Shape>
-    requires lhs { IsSubset (attributes lhs) (universe_of schema.now) }
-    requires rhs { IsSubset (attributes rhs) (universe_of schema.now) }
-    ensures fits { IfSome result (Fits schema.now (attributes lhs) (attributes rhs)) }
-    ensures no_larger { IsNoLarger schema.now (attributes lhs) (attributes rhs)
+    requires lhs { IsSubset (attributes lhs) (universe_of theory.now) }
+    requires rhs { IsSubset (attributes rhs) (universe_of theory.now) }
+    ensures fits { IfSome result (Fits theory.now (attributes lhs) (attributes rhs)) }
+    ensures no_larger { IsNoLarger theory.now (attributes lhs) (attributes rhs)
         number steps.replicated steps.complemented steps.augmented steps.turned steps.again result }
 {
-    let given = given_dep(schema, number);
-    let replica = step_taken(schema, steps.replicated, StepRule::Replication, given);
+    let given = given_dep(theory, number);
+    let replica = step_taken(theory, steps.replicated, StepRule::Replication, given);
     let start = step_taken(
-        schema,
+        theory,
         steps.complemented,
         StepRule::Complementation,
         replica,
     );
     let first = missing_sides(lhs, rhs, start);
     let rule = augmentation(first);
-    let middle = step_taken(schema, steps.augmented, rule, start);
-    let turn = step_taken(schema, steps.turned, StepRule::Complementation, middle);
+    let middle = step_taken(theory, steps.augmented, rule, start);
+    let turn = step_taken(theory, steps.turned, StepRule::Complementation, middle);
     let second = missing_sides(lhs, rhs, turn);
     let last = augmentation(second);
-    let end = step_taken(schema, steps.again, last, turn);
+    let end = step_taken(theory, steps.again, last, turn);
     if !is_mvd(end, lhs, rhs) {
         return None;
     }
@@ -132,34 +132,34 @@ fn augmentation(by: Sides) -> StepRule
 }
 
 // What a given dependency concludes, if there is one of this number.
-pub fn given_dep(schema: &Schema, number: u16) -> Option<Dep>
-    ensures only { ConcludesOnly schema.now (leaf (given number)) result }
+pub fn given_dep(theory: &Theory, number: u16) -> Option<Dep>
+    ensures only { ConcludesOnly theory.now (leaf (given number)) result }
 {
-    match leaf_conclusion(schema, LeafRule::Given(number)) {
+    match leaf_conclusion(theory, LeafRule::Given(number)) {
         Ok(dep) => Some(dep),
         Err(_) => None,
     }
 }
 
 // What a step concludes, if it is taken and concludes anything.
-pub fn step_taken(schema: &Schema, is_taken: bool, rule: StepRule, from: Option<Dep>) -> Option<Dep>
-    ensures only { (t : Tree) → ConcludesOnly schema.now t from
-        → ConcludesOnly schema.now (taken is_taken (step_of rule) t) result }
+pub fn step_taken(theory: &Theory, is_taken: bool, rule: StepRule, from: Option<Dep>) -> Option<Dep>
+    ensures only { (t : Tree) → ConcludesOnly theory.now t from
+        → ConcludesOnly theory.now (taken is_taken (step_of rule) t) result }
 {
     if is_taken {
-        step_dep(schema, rule, from)
+        step_dep(theory, rule, from)
     } else {
         from
     }
 }
 
 // What a step concludes, if anything.
-fn step_dep(schema: &Schema, rule: StepRule, from: Option<Dep>) -> Option<Dep>
-    ensures only { (t : Tree) → ConcludesOnly schema.now t from
-        → ConcludesOnly schema.now (taken true (step_of rule) t) result }
+fn step_dep(theory: &Theory, rule: StepRule, from: Option<Dep>) -> Option<Dep>
+    ensures only { (t : Tree) → ConcludesOnly theory.now t from
+        → ConcludesOnly theory.now (taken true (step_of rule) t) result }
 {
     match from {
-        Some(premise) => match step_conclusion(schema, rule, premise) {
+        Some(premise) => match step_conclusion(theory, rule, premise) {
             Ok(dep) => Some(dep),
             Err(_) => None,
         },

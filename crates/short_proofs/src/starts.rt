@@ -6,7 +6,7 @@ ghost use Rattle.derivation.specs.Shortened.{ConcludesOnly};
 ghost use Rattle.short_proofs.specs.Short.{start};
 
 use crate::shapes::{given_dep, step_taken, stepped};
-use dep_model::{Dep, OutOfMemory, Schema};
+use dep_model::{Dep, OutOfMemory, Theory};
 use derivation::{Deriv, LeafRule, StepRule};
 use std::alloc::Global;
 
@@ -19,13 +19,13 @@ pub struct Start {
 }
 
 // What a start concludes, if anything.
-pub fn start_dep(schema: &Schema, from: Start) -> Option<Dep>
-    ensures only { ConcludesOnly schema.now (start from.number from.replicated from.complemented) result }
+pub fn start_dep(theory: &Theory, from: Start) -> Option<Dep>
+    ensures only { ConcludesOnly theory.now (start from.number from.replicated from.complemented) result }
 {
-    let given = given_dep(schema, from.number);
-    let replica = step_taken(schema, from.replicated, StepRule::Replication, given);
+    let given = given_dep(theory, from.number);
+    let replica = step_taken(theory, from.replicated, StepRule::Replication, given);
     step_taken(
-        schema,
+        theory,
         from.complemented,
         StepRule::Complementation,
         replica,

@@ -1,11 +1,11 @@
 ghost use Rattle.std.specs.Prelude.{◌≡◌};
 ghost use Rattle.attr_sets.specs.Attributes.{IsSubset};
 ghost use Rattle.attr_sets.specs.Sets.{attributes};
-ghost use Rattle.dep_model.specs.Schemas.{width_of, universe_of, theory_of};
+ghost use Rattle.dep_model.specs.Theories.{width_of, universe_of, theory_of};
 ghost use Rattle.split_forms.specs.Outcomes.{IsOutcome};
 
 use attr_sets::AttrSet;
-use dep_model::{Form, Schema};
+use dep_model::{Form, Theory};
 use normal_forms::{Breach, violation, visible_violation};
 
 // What becomes of a scheme that is split.
@@ -20,16 +20,16 @@ pub enum Outcome {
 }
 
 // Tries a scheme.
-pub fn outcome_of(schema: &Schema, form: Form, scheme: AttrSet) -> Outcome
+pub fn outcome_of(theory: &Theory, form: Form, scheme: AttrSet) -> Outcome
     requires form { form ≡ Form.Third → ⊥ }
-    requires scheme { IsSubset (attributes scheme) (universe_of schema.now) }
-    ensures outcome { IsOutcome (width_of schema.now) (theory_of schema.now) form
+    requires scheme { IsSubset (attributes scheme) (universe_of theory.now) }
+    ensures outcome { IsOutcome (width_of theory.now) (theory_of theory.now) form
         (attributes scheme) result }
 {
-    match violation(schema, scheme, form) {
+    match violation(theory, scheme, form) {
         Ok(None) => Outcome::Whole,
         Ok(Some(breach)) => Outcome::Cut(breach),
-        Err(_) => match visible_violation(schema, scheme, form) {
+        Err(_) => match visible_violation(theory, scheme, form) {
             Some(breach) => Outcome::Cut(breach),
             None => Outcome::Stuck,
         },

@@ -2,7 +2,7 @@ ghost use Rattle.std.specs.Prelude.{◌≡◌, ◌-◌, ◌^◌, ◌<◌, ◌≤
 ghost use Rattle.dep_model.specs.Failures.{RefusesAs};
 ghost use Rattle.dep_model.specs.Plans.{schemes_of};
 ghost use Rattle.dep_model.specs.Projections.{IsLossless};
-ghost use Rattle.dep_model.specs.Schemas.{width_of, theory_of};
+ghost use Rattle.dep_model.specs.Theories.{width_of, theory_of};
 ghost use Rattle.plans.specs.Containing.{without_contained};
 ghost use Rattle.plans.specs.Plans.{scheme_sets, plan_of, IsPlanOver};
 ghost use Rattle.normal_forms.specs.Chosen.{IsInForm};
@@ -11,7 +11,7 @@ ghost use Rattle.split_forms.specs.Refusals.{IsRefusedSplit, IsWithinLimits};
 
 use crate::refusal::SplitRefusal;
 use crate::steps::{SplitSteps, split_steps};
-use dep_model::{Failure, Form, OutOfMemory, Schema};
+use dep_model::{Failure, Form, OutOfMemory, Theory};
 use plans::{Plan, drop_contained};
 use std::alloc::Global;
 
@@ -30,28 +30,28 @@ use std::alloc::Global;
 /// does it, and there may be `limit` schemes.
 pub fn split(
     alloc: Global,
-    schema: &Schema,
+    theory: &Theory,
     form: Form,
     limit: u32,
 ) -> Result<Plan, Failure<SplitRefusal>>
     requires form { form ≡ Form.Third → ⊥ }
     requires limit { 0 < limit }
-    ensures universe { IfOk result (λ plan. IsPlanOver schema.now plan) }
+    ensures universe { IfOk result (λ plan. IsPlanOver theory.now plan) }
     ensures finished { IfOk result (λ plan.
-        IsSplitPlan (width_of schema.now) (theory_of schema.now) form (scheme_sets plan)) }
+        IsSplitPlan (width_of theory.now) (theory_of theory.now) form (scheme_sets plan)) }
     ensures lossless { IfOk result (λ plan.
-        IsLossless (width_of schema.now) (theory_of schema.now) (plan_of plan)) }
+        IsLossless (width_of theory.now) (theory_of theory.now) (plan_of plan)) }
     ensures in_form { IfOk result (λ plan.
-        All (IsInForm (width_of schema.now) (theory_of schema.now) form) (plan_of plan)) }
+        All (IsInForm (width_of theory.now) (theory_of theory.now) form) (plan_of plan)) }
     ensures within_limits { IfOk result (λ _.
-        IsWithinLimits (width_of schema.now) (theory_of schema.now) form limit) }
+        IsWithinLimits (width_of theory.now) (theory_of theory.now) form limit) }
     ensures refused { IfErr result
-        (RefusesAs (IsRefusedSplit (width_of schema.now) (theory_of schema.now) form limit)) }
-    ensures never_too_many { 2 ^ (width_of schema.now - 1) ≤ limit
+        (RefusesAs (IsRefusedSplit (width_of theory.now) (theory_of theory.now) form limit)) }
+    ensures never_too_many { 2 ^ (width_of theory.now - 1) ≤ limit
         → result ≡ Err (Failure.Refused SplitRefusal.TooManySchemes) → ⊥ }
 {
-    match split_steps(alloc, schema, form, limit) {
-        Ok(steps) => Ok(plan_of_steps(alloc, schema, &steps)?),
+    match split_steps(alloc, theory, form, limit) {
+        Ok(steps) => Ok(plan_of_steps(alloc, theory, &steps)?),
         Err(failure) => Err(failure),
     }
 }
@@ -59,19 +59,19 @@ pub fn split(
 /// The plan that a split leads to: its last list without contained schemes.
 pub fn plan_of_steps(
     alloc: Global,
-    schema: &Schema,
+    theory: &Theory,
     steps: &SplitSteps,
 ) -> Result<Plan, OutOfMemory>
     requires form { steps.now.form ≡ Form.Third → ⊥ }
-    requires finished { FinishedList (width_of schema.now) (theory_of schema.now) steps.now.form
+    requires finished { FinishedList (width_of theory.now) (theory_of theory.now) steps.now.form
         (schemes_of steps.now.schemes.items) }
-    ensures universe { IfOk result (IsPlanOver schema.now) }
+    ensures universe { IfOk result (IsPlanOver theory.now) }
     ensures kept { IfOk result (λ plan. scheme_sets plan ≡ without_contained steps.now.schemes.items) }
     ensures lossless { IfOk result (λ plan.
-        IsLossless (width_of schema.now) (theory_of schema.now) (plan_of plan)) }
+        IsLossless (width_of theory.now) (theory_of theory.now) (plan_of plan)) }
     ensures in_form { IfOk result (λ plan.
-        All (IsInForm (width_of schema.now) (theory_of schema.now) steps.now.form) (plan_of plan)) }
+        All (IsInForm (width_of theory.now) (theory_of theory.now) steps.now.form) (plan_of plan)) }
 {
     let schemes = Vec::from_slice(alloc, &steps.schemes)?;
-    Ok(drop_contained(schema, Plan::new(schema, schemes)))
+    Ok(drop_contained(theory, Plan::new(theory, schemes)))
 }

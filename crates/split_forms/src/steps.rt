@@ -1,7 +1,7 @@
 ghost use Rattle.std.specs.Prelude.{◌≡◌, ◌<◌, IfOk, IfErr};
 ghost use Rattle.dep_model.specs.Failures.{RefusesAs};
 ghost use Rattle.dep_model.specs.Plans.{schemes_of};
-ghost use Rattle.dep_model.specs.Schemas.{width_of, theory_of};
+ghost use Rattle.dep_model.specs.Theories.{width_of, theory_of};
 ghost use Rattle.split_forms.specs.Refusals.{IsRefusedSplit, IsWithinLimits};
 ghost use Rattle.split_forms.specs.Steps.{AreSplitSteps, cuttings_of};
 
@@ -10,7 +10,7 @@ use crate::outcome::Outcome;
 use crate::refusal::SplitRefusal;
 use crate::trying::found_outcome;
 use attr_sets::AttrSet;
-use dep_model::{Failure, Form, Schema};
+use dep_model::{Failure, Form, Theory};
 use normal_forms::Breach;
 use std::alloc::Global;
 
@@ -39,29 +39,29 @@ pub struct SplitSteps {
 /// those after it.
 pub fn split_steps(
     alloc: Global,
-    schema: &Schema,
+    theory: &Theory,
     form: Form,
     limit: u32,
 ) -> Result<SplitSteps, Failure<SplitRefusal>>
     requires form { form ≡ Form.Third → ⊥ }
     requires limit { 0 < limit }
     ensures form { IfOk result (λ steps. steps.form ≡ form) }
-    ensures steps { IfOk result (λ steps. AreSplitSteps (width_of schema.now) (theory_of schema.now) form
+    ensures steps { IfOk result (λ steps. AreSplitSteps (width_of theory.now) (theory_of theory.now) form
         (cuttings_of steps.cuts.items) (schemes_of steps.schemes.items)) }
     ensures within_limits { IfOk result (λ _.
-        IsWithinLimits (width_of schema.now) (theory_of schema.now) form limit) }
+        IsWithinLimits (width_of theory.now) (theory_of theory.now) form limit) }
     ensures refused { IfErr result
-        (RefusesAs (IsRefusedSplit (width_of schema.now) (theory_of schema.now) form limit)) }
+        (RefusesAs (IsRefusedSplit (width_of theory.now) (theory_of theory.now) form limit)) }
 {
     let mut schemes = Vec::new(alloc);
-    schemes.push(AttrSet::full(schema.width()))?;
+    schemes.push(AttrSet::full(theory.width()))?;
     let mut cuts = Vec::new(alloc);
     let mut tried = Vec::new(alloc);
     let most = limit as usize;
     let mut at = 0;
     while at < schemes.len() {
         let scheme = schemes[at];
-        match found_outcome(schema, form, scheme, &mut tried)? {
+        match found_outcome(theory, form, scheme, &mut tried)? {
             Outcome::Whole => at += 1,
             Outcome::Stuck => return Err(Failure::Refused(SplitRefusal::TooWide { scheme })),
             Outcome::Cut(breach) => {

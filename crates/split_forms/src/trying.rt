@@ -1,12 +1,12 @@
 ghost use Rattle.std.specs.Prelude.{◌≡◌, IfOk, IfSome, Any};
 ghost use Rattle.attr_sets.specs.Attributes.{IsSubset};
 ghost use Rattle.attr_sets.specs.Sets.{attributes};
-ghost use Rattle.dep_model.specs.Schemas.{width_of, universe_of, theory_of};
+ghost use Rattle.dep_model.specs.Theories.{width_of, universe_of, theory_of};
 ghost use Rattle.split_forms.specs.Outcomes.{IsOutcome, AreTried};
 
 use crate::outcome::{Outcome, outcome_of};
 use attr_sets::AttrSet;
-use dep_model::{Form, OutOfMemory, Schema};
+use dep_model::{Form, OutOfMemory, Theory};
 
 // A scheme that was tried, and what became of it.
 #[derive(Clone, Copy, Debug)]
@@ -18,23 +18,23 @@ pub struct Tried {
 // What becomes of a scheme. One that was tried before is not tried again: where schemes overlap,
 // equal ones come up by the thousand.
 pub fn found_outcome(
-    schema: &Schema,
+    theory: &Theory,
     form: Form,
     scheme: AttrSet,
     tried: &mut Vec<Tried>,
 ) -> Result<Outcome, OutOfMemory>
     requires form { form ≡ Form.Third → ⊥ }
-    requires scheme { IsSubset (attributes scheme) (universe_of schema.now) }
-    requires tried { AreTried (width_of schema.now) (theory_of schema.now) form tried.old.items }
+    requires scheme { IsSubset (attributes scheme) (universe_of theory.now) }
+    requires tried { AreTried (width_of theory.now) (theory_of theory.now) form tried.old.items }
     ensures outcome { IfOk result
-        (IsOutcome (width_of schema.now) (theory_of schema.now) form (attributes scheme)) }
+        (IsOutcome (width_of theory.now) (theory_of theory.now) form (attributes scheme)) }
     ensures tried { IfOk result (λ _.
-        AreTried (width_of schema.now) (theory_of schema.now) form tried.new.items) }
+        AreTried (width_of theory.now) (theory_of theory.now) form tried.new.items) }
 {
     if let Some(outcome) = earlier_outcome(tried, scheme) {
         return Ok(outcome);
     }
-    let outcome = outcome_of(schema, form, scheme);
+    let outcome = outcome_of(theory, form, scheme);
     tried.push(Tried { scheme, outcome })?;
     Ok(outcome)
 }

@@ -3,9 +3,9 @@
 use Rattle.std.specs.List.{zip}
 use Rattle.std.specs.Prelude.{ℕ, Bool, true, false, if◌then◌else◌, Option, Some, None, List, [], ◌∷◌, ◌++◌, codes, option_and_then}
 use Rattle.attr_sets.specs.Attributes.{Attributes, union, difference}
-use Rattle.dep_model.specs.declared.schema.Schema.{Schema}
+use Rattle.schema_model.specs.Schemas.{Schema}
 use Rattle.dep_model.specs.Projections.{members_below}
-use Rattle.dep_model.specs.Schemas.{width_of, universe_of, nullable_of, lines_of, theory_of}
+use Rattle.schema_model.specs.Schemas.{width_of, universe_of, nullable_of, lines_of, theory_of}
 use Rattle.sql_syntax.specs.Names.{is_not_empty}
 use Rattle.sql_syntax.specs.Syntax.{ColumnName, helper, Column, Scalar, column, as_text, as_integer, number_zero, number_one, written_number, count, sum_product, less_sum, sum, Condition, is_missing, differs, exceeds, either, Item, own, named, each_row, rows_where, groups_by, Query, stored, select, union_all}
 use Rattle.dep_model.specs.Dependencies.{Dependency}

@@ -3,11 +3,11 @@
 use Rattle.std.specs.Prelude.{ℕ, ◌+◌, List, ◌++◌, [], map, codes, slice_index_or}
 use Rattle.std.specs.Fmt.{decimal}
 use Rattle.attr_sets.specs.Attributes.{Attributes, count_below}
-use Rattle.dep_model.specs.declared.column_type.ColumnType.{ColumnType}
-use Rattle.dep_model.specs.declared.column_type.ColumnType.TheVariants.{Text}
-use Rattle.dep_model.specs.declared.schema.Schema.{Schema}
+use Rattle.schema_model.specs.declared.column_type.ColumnType.{ColumnType}
+use Rattle.schema_model.specs.declared.column_type.ColumnType.TheVariants.{Text}
+use Rattle.schema_model.specs.Schemas.{Schema}
 use Rattle.dep_model.specs.Projections.{members_below}
-use Rattle.dep_model.specs.Schemas.{names_of, width_of, types_of}
+use Rattle.schema_model.specs.Schemas.{names_of, width_of, types_of}
 use Rattle.sql_syntax.specs.Syntax.{ColumnName, attribute, helper, Column, Scalar, column, as_text, with_empty_text, Item, own, named}
 
 -- ---- one column

@@ -7,9 +7,9 @@ use Rattle.std.specs.Ordering.{int_eq}
 use Rattle.std.specs.Prelude.{◌↔◌, ℤ, pos, ◌-ℤ◌, ◌+ℤ◌, ◌*ℤ◌, nat_lt, Contains, if◌then◌else◌, option_map, option_and_then, codes}
 use lib.IntN.{pos-*ℤ-pos, -ℤ-+ℤ_cancel, +ℤ_invr, +ℤ_idl}
 use Rattle.attr_sets.specs.Attributes.{Attributes, union, count_below, IsSubset}
-use Rattle.dep_model.specs.declared.schema.Schema.{Schema}
+use Rattle.schema_model.specs.Schemas.{Schema}
 use Rattle.dep_model.specs.Projections.{members_below}
-use Rattle.dep_model.specs.Schemas.{width_of, universe_of}
+use Rattle.schema_model.specs.Schemas.{width_of, universe_of}
 use Rattle.dep_model.specs.Tuples.{Tuple, Relation, value_at, IsOver}
 use Rattle.dep_model.proofs.DistinctLemmas.{filter-member, filter-keeps}
 use Rattle.dep_model.proofs.ListLemmas.{Contains-head}

@@ -9,10 +9,10 @@ use Rattle.std.specs.Ordering.{int_eq}
 use Rattle.std.specs.Prelude.{ℤ, pos, Contains}
 use Rattle.std.specs.Str.{bytes_eq, str_to_ascii_lowercase}
 use Rattle.attr_sets.specs.Attributes.{Attributes, count_below}
-use Rattle.dep_model.specs.declared.schema.Schema.{Schema}
-use Rattle.dep_model.specs.Names.{same_name}
+use Rattle.schema_model.specs.Schemas.{Schema}
+use Rattle.schema_model.specs.Names.{same_name}
 use Rattle.dep_model.specs.Projections.{members_below}
-use Rattle.dep_model.specs.Schemas.{width_of}
+use Rattle.schema_model.specs.Schemas.{width_of}
 use Rattle.dep_model.proofs.ListLemmas.{Contains-head, Contains-later, Contains-cases}
 use Rattle.dep_model.proofs.SchemeLemmas.{members_below-none, members_below-member, members_below-outside, members_below-at}
 use Rattle.sql_check_laws.proofs.CountLemmas.{DecidesSame}

@@ -9,9 +9,9 @@ use Rattle.std.specs.Str.Parse.{digits_value}
 use Rattle.std.specs.Str.{bytes_eq}
 use Rattle.attr_sets.specs.Attributes.{Attributes, count_below, IsSubset}
 use Rattle.attr_sets.proofs.AttributesLemmas.{count_below-le}
-use Rattle.dep_model.specs.declared.schema.Schema.{Schema}
+use Rattle.schema_model.specs.Schemas.{Schema}
 use Rattle.dep_model.specs.Projections.{members_below}
-use Rattle.dep_model.specs.Schemas.{width_of}
+use Rattle.schema_model.specs.Schemas.{width_of}
 use Rattle.dep_model.specs.Tuples.{Relation, value_at}
 use Rattle.dep_model.proofs.ListLemmas.{Contains-head, Contains-later, Contains-cases}
 use Rattle.dep_model.proofs.SchemeLemmas.{members_below-at}

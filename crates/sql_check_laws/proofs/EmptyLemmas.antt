@@ -2,8 +2,8 @@
 use Rattle.std.proofs.Common.{◌≡◌, ℕ, Bool, true, false, List, [], ◌∷◌, length, refl, sym, ap, ◌∙◌, inl, inr, arith}
 use Rattle.std.proofs.lemmas.Bool.{cases_Bool, true≢false}
 use Rattle.std.specs.Prelude.{◌↔◌}
-use Rattle.dep_model.specs.declared.schema.Schema.{Schema}
-use Rattle.dep_model.specs.Schemas.{nullable_of}
+use Rattle.schema_model.specs.Schemas.{Schema}
+use Rattle.schema_model.specs.Schemas.{nullable_of}
 use Rattle.dep_model.specs.Tuples.{Relation, value_at}
 use Rattle.sql_check.specs.Checks.{required_of}
 use Rattle.sql_evaluation.specs.Cells.{Cell, missing, text, number, text_of, is_none}

@@ -5,9 +5,9 @@ use Rattle.std.proofs.lemmas.List.{get_or-map}
 use Rattle.std.specs.Prelude.{ℤ, Contains, if◌then◌else◌, option_map, option_and_then, codes}
 use Rattle.std.specs.Set.{unique_keys}
 use Rattle.attr_sets.specs.Attributes.{Attributes, count_below, IsSubset}
-use Rattle.dep_model.specs.declared.schema.Schema.{Schema}
+use Rattle.schema_model.specs.Schemas.{Schema}
 use Rattle.dep_model.specs.Projections.{members_below}
-use Rattle.dep_model.specs.Schemas.{width_of}
+use Rattle.schema_model.specs.Schemas.{width_of}
 use Rattle.dep_model.specs.Tuples.{Tuple, Relation, value_at}
 use Rattle.dep_model.proofs.ListLemmas.{Contains-map, map-member}
 use Rattle.dep_model.proofs.SchemeLemmas.{members_below-at}

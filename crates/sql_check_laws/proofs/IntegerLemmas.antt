@@ -3,9 +3,9 @@ use Rattle.std.proofs.Common.{◌≡◌, ◌<◌, ℕ, Bool, false, not, List, [
 use Rattle.std.proofs.lemmas.Bool.{cases_Bool, true≢false}
 use Rattle.std.specs.Prelude.{◌↔◌, ℤ, Contains, option_map, option_and_then, codes}
 use Rattle.std.specs.Str.{bytes_eq}
-use Rattle.dep_model.specs.declared.schema.Schema.{Schema}
-use Rattle.dep_model.specs.Integers.{IsIntegerText}
-use Rattle.dep_model.specs.Schemas.{width_of}
+use Rattle.schema_model.specs.Schemas.{Schema}
+use Rattle.schema_model.specs.Integers.{IsIntegerText}
+use Rattle.schema_model.specs.Schemas.{width_of}
 use Rattle.dep_model.specs.Tuples.{Tuple, Relation, value_at}
 use Rattle.sql_syntax.specs.Syntax.{Column, Condition, column, as_text, as_integer, differs, own}
 use Rattle.sql_check.specs.Columns.{column_at}
@@ -13,7 +13,7 @@ use Rattle.sql_check.specs.Checks.{integer_query}
 use Rattle.sql_evaluation.specs.Cells.{Cell, missing, text, number, integer_text, text_of, integer_of, differ}
 use Rattle.sql_evaluation.specs.Values.{of_both, holds}
 use Rattle.sql_evaluation.specs.Evaluation.{Engine}
-use Rattle.sql_check_laws.specs.HeldRelations.{IsHeld, Holds, CastsIntegers}
+use Rattle.sql_check_laws.specs.HeldRelations.{RowHolds, Holds, CastsIntegers}
 use Rattle.sql_check_laws.specs.CheckedRules.{GivesNoRow, IsIntegerCell, AreIntegers, ShowsIntegers}
 use Rattle.sql_check_laws.proofs.ColumnLemmas.{bytes_same, bytes_self}
 use Rattle.sql_check_laws.proofs.GroupLemmas.{Cells}
@@ -54,7 +54,7 @@ integer_told cast (text t) casts = (
 integer_test : Column → Condition
 integer_test c = differs (as_text (as_integer (column c))) (as_text (column c))
 
-integer-tested : (s : Schema) (cast : List ℕ → Option ℤ) (cell : Cells) (names : List (List ℕ)) (row : List Cell) (t : Tuple) (k : ℕ) → IsHeld s cell names row t → k < width_of s
+integer-tested : (s : Schema) (cast : List ℕ → Option ℤ) (cell : Cells) (names : List (List ℕ)) (row : List Cell) (t : Tuple) (k : ℕ) → RowHolds s cell names row t → k < width_of s
     → holds cast (row_look names row) (integer_test (column_at s (codes "r") k)) ≡ differs_from_integer cast (cell k (value_at t k))
 unfolding integer_test
 integer-tested s cast cell names row t k held low =

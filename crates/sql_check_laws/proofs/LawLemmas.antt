@@ -7,11 +7,11 @@ use Rattle.std.specs.List.{zip}
 use Rattle.std.specs.Prelude.{◌↔◌, All, Contains, MatchOption, if◌then◌else◌, codes}
 use Rattle.attr_sets.specs.Attributes.{Attributes, below, union, difference, IsSubset}
 use Rattle.attr_sets.specs.Sets.{is_subset}
-use Rattle.dep_model.specs.declared.schema.Schema.{Schema}
+use Rattle.schema_model.specs.Schemas.{Schema}
 use Rattle.dep_model.specs.Deps.{dependency_of}
 use Rattle.dep_model.specs.Dependencies.{Dependency, fd, mvd, IsWithin, Obeys}
 use Rattle.dep_model.specs.Projections.{members_below}
-use Rattle.dep_model.specs.Schemas.{width_of, universe_of, lines_of, theory_of, deps_of, LegalFor}
+use Rattle.schema_model.specs.Schemas.{width_of, universe_of, lines_of, theory_of, deps_of, LegalFor}
 use Rattle.dep_model.specs.Tuples.{Relation, IsOver}
 use Rattle.dep_model.proofs.DepLemmas.{dependencies_all-from}
 use Rattle.dep_model.proofs.ListLemmas.{Contains-head, Contains-later, Contains-cases}

@@ -3,9 +3,9 @@ use Rattle.std.proofs.Common.{◌≡◌, ◌<◌, ℕ, Bool, true, false, ◌||�
 use Rattle.std.proofs.lemmas.Bool.{cases_Bool, true≢false, ltb-true}
 use Rattle.std.specs.Prelude.{◌↔◌, ℤ, Contains, option_map, option_and_then, codes}
 use Rattle.attr_sets.specs.Attributes.{Attributes}
-use Rattle.dep_model.specs.declared.schema.Schema.{Schema}
+use Rattle.schema_model.specs.Schemas.{Schema}
 use Rattle.dep_model.specs.Projections.{members_below}
-use Rattle.dep_model.specs.Schemas.{width_of, universe_of}
+use Rattle.schema_model.specs.Schemas.{width_of, universe_of}
 use Rattle.dep_model.specs.Tuples.{Tuple, Relation, value_at}
 use Rattle.dep_model.proofs.DistinctLemmas.{filter-member, filter-keeps}
 use Rattle.dep_model.proofs.ListLemmas.{Contains-head, Contains-later, Contains-cases}
@@ -15,7 +15,7 @@ use Rattle.sql_check.specs.Checks.{required_of, some_missing, missing_query, mis
 use Rattle.sql_evaluation.specs.Cells.{Cell, is_none}
 use Rattle.sql_evaluation.specs.Values.{each, of_both, View, holds}
 use Rattle.sql_evaluation.specs.Evaluation.{Engine, item_value, with_items}
-use Rattle.sql_check_laws.specs.HeldRelations.{IsHeld, Holds}
+use Rattle.sql_check_laws.specs.HeldRelations.{RowHolds, Holds}
 use Rattle.sql_check_laws.specs.CheckedRules.{GivesNoRowWhere, Tells, NoneMissing}
 use Rattle.sql_check_laws.proofs.CellLemmas.{member_of, is_member_of}
 use Rattle.sql_check_laws.proofs.EachLemmas.{each-known, each-map, taken-known}
@@ -33,7 +33,7 @@ abbrev AreLow : Schema → List ℕ → Type 0
 AreLow s ks = (k : ℕ) → Contains ks k → k < width_of s
 
 missing-tested : (s : Schema) (cast : List ℕ → Option ℤ) (cell : Cells) (names : List (List ℕ)) (row : List Cell) (t : Tuple) (k : ℕ) (ms : List ℕ)
-    → IsHeld s cell names row t → AreLow s (k ∷ ms) → holds cast (row_look names row) (some_missing s k ms) ≡ Some (any_missing cell t k ms)
+    → RowHolds s cell names row t → AreLow s (k ∷ ms) → holds cast (row_look names row) (some_missing s k ms) ≡ Some (any_missing cell t k ms)
 missing-tested s cast cell names row t k [] held low = ap (option_map is_none) (held k (low k (Contains-head k [])))
 missing-tested s cast cell names row t k (m ∷ ms) held low =
     ap (λ (found : Option Cell). of_both (λ (a b : Bool). Some (a || b)) (option_map is_none found) (holds cast (row_look names row) (some_missing s m ms)))
@@ -62,7 +62,7 @@ any_missing-false cell t k (m ∷ ms) =
     ]
 
 -- what is shown of a row
-shown-row : (s : Schema) (cast : List ℕ → Option ℤ) (cell : Cells) (names : List (List ℕ)) (row : List Cell) (t : Tuple) (x : Attributes) → IsHeld s cell names row t
+shown-row : (s : Schema) (cast : List ℕ → Option ℤ) (cell : Cells) (names : List (List ℕ)) (row : List Cell) (t : Tuple) (x : Attributes) → RowHolds s cell names row t
     → each (item_value cast (row_look names row)) (items_on s (codes "r") x) ≡ Some (map (λ k. cell k (value_at t k)) (members_below (width_of s) x))
 shown-row s cast cell names row t x held =
     each-map (item_value cast (row_look names row)) (λ (k : ℕ). own (column_at s (codes "r") k)) (members_below (width_of s) x)

@@ -1,14 +1,14 @@
 -- The rows of a table that holds a relation: their tuples, and what tests of rows take.
 use Rattle.std.proofs.Common.{◌≡◌, ℕ, Bool, true, false, List, [], ◌∷◌, map, filter, Some, None, Option, refl, sym, ap, subst, ◌∙◌, ⊎_elim, arith}
 use Rattle.std.specs.Prelude.{◌↔◌, Contains, if◌then◌else◌, option_map, option_and_then, codes}
-use Rattle.dep_model.specs.declared.schema.Schema.{Schema}
+use Rattle.schema_model.specs.Schemas.{Schema}
 use Rattle.dep_model.specs.Tuples.{Tuple, Relation}
 use Rattle.dep_model.proofs.ListLemmas.{Contains-head, Contains-later, Contains-cases, Contains-map, map-member}
 use Rattle.sql_syntax.specs.Syntax.{Condition, Item, rows_where, stored, select}
 use Rattle.sql_evaluation.specs.Cells.{Cell}
 use Rattle.sql_evaluation.specs.Values.{each, look_at, View, holds}
 use Rattle.sql_evaluation.specs.Evaluation.{Engine, Rows, taken, row_view, item_value, with_items, selected, evaluate}
-use Rattle.sql_check_laws.specs.HeldRelations.{IsHeld, AreHeld}
+use Rattle.sql_check_laws.specs.HeldRelations.{RowHolds, RowsHold}
 use Rattle.sql_check_laws.specs.CheckedRules.{GivesNoRow}
 use Rattle.sql_check_laws.proofs.EachLemmas.{taken-known}
 use Rattle.sql_check_laws.proofs.GroupLemmas.{Cells}
@@ -16,22 +16,22 @@ use Rattle.sql_check_laws.proofs.SeveralLemmas.{shows_none}
 
 -- ---- tuples
 pub row-tuple : (s : Schema) (cell : Cells) (names : List (List ℕ)) (rows : List (List Cell)) (r : Relation) (row : List Cell)
-    → AreHeld s cell names rows r → Contains rows row → (t : Tuple) × Contains r t × IsHeld s cell names row t
+    → RowsHold s cell names rows r → Contains rows row → (t : Tuple) × Contains r t × RowHolds s cell names row t
 row-tuple s cell names [] [] row held h = absurd (omega (arith, h.1))
 row-tuple s cell names [] (t ∷ r) row held h = absurd held
 row-tuple s cell names (first ∷ rows) [] row held h = absurd held
 row-tuple s cell names (first ∷ rows) (t ∷ r) row held h = ⊎_elim
-    (λ (is : row ≡ first). (t, Contains-head t r, subst (λ (x : List Cell). IsHeld s cell names x t) (sym is) held.0))
+    (λ (is : row ≡ first). (t, Contains-head t r, subst (λ (x : List Cell). RowHolds s cell names x t) (sym is) held.0))
     (λ later. let found = row-tuple s cell names rows r row held.1 later in (found.0, Contains-later t r found.0 found.1, found.2))
     (Contains-cases first rows row h)
 
 pub tuple-row : (s : Schema) (cell : Cells) (names : List (List ℕ)) (rows : List (List Cell)) (r : Relation) (t : Tuple)
-    → AreHeld s cell names rows r → Contains r t → (row : List Cell) × Contains rows row × IsHeld s cell names row t
+    → RowsHold s cell names rows r → Contains r t → (row : List Cell) × Contains rows row × RowHolds s cell names row t
 tuple-row s cell names [] [] t held h = absurd (omega (arith, h.1))
 tuple-row s cell names [] (u ∷ r) t held h = absurd held
 tuple-row s cell names (row ∷ rows) [] t held h = absurd held
 tuple-row s cell names (row ∷ rows) (u ∷ r) t held h = ⊎_elim
-    (λ (is : t ≡ u). (row, Contains-head row rows, subst (λ (x : Tuple). IsHeld s cell names row x) (sym is) held.0))
+    (λ (is : t ≡ u). (row, Contains-head row rows, subst (λ (x : Tuple). RowHolds s cell names row x) (sym is) held.0))
     (λ later. let found = tuple-row s cell names rows r t held.1 later in (found.0, Contains-later row rows found.0 found.1, found.2))
     (Contains-cases u r t h)
 

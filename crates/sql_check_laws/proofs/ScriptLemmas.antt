@@ -1,8 +1,8 @@
 -- No query of the script gives a row exactly where all rules hold.
 use Rattle.std.proofs.Common.{ℕ, List}
 use Rattle.std.specs.Prelude.{◌↔◌}
-use Rattle.dep_model.specs.declared.schema.Schema.{Schema}
-use Rattle.dep_model.specs.Schemas.{width_of}
+use Rattle.schema_model.specs.Schemas.{Schema}
+use Rattle.schema_model.specs.Schemas.{width_of}
 use Rattle.dep_model.specs.Tuples.{Relation, IsOver}
 use Rattle.sql_check.specs.Checks.{required_query}
 use Rattle.sql_evaluation.specs.Evaluation.{Engine}

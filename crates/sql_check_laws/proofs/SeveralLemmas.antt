@@ -6,9 +6,9 @@ use Rattle.std.proofs.lemmas.List.{get_or-map, length-map}
 use Rattle.std.specs.Int.Signed.{lt_z}
 use Rattle.std.specs.Prelude.{◌↔◌, ℤ, pos, nat_lt, Contains, option_map, option_and_then, codes}
 use Rattle.attr_sets.specs.Attributes.{Attributes, count_below, IsSubset}
-use Rattle.dep_model.specs.declared.schema.Schema.{Schema}
+use Rattle.schema_model.specs.Schemas.{Schema}
 use Rattle.dep_model.specs.Projections.{members_below, project_tuple}
-use Rattle.dep_model.specs.Schemas.{width_of, universe_of}
+use Rattle.schema_model.specs.Schemas.{width_of, universe_of}
 use Rattle.dep_model.specs.Tuples.{Tuple, Relation, value_at, AgreeOn, IsOver}
 use Rattle.dep_model.proofs.DistinctLemmas.{filter-member, filter-keeps}
 use Rattle.dep_model.proofs.ListLemmas.{Contains-head, Contains-map, map-member}

@@ -8,9 +8,9 @@ use Rattle.std.specs.Set.{unique_keys}
 use Rattle.std.specs.Str.{bytes_eq}
 use lib.IntN.{pos-+ℤ-pos}
 use Rattle.attr_sets.specs.Attributes.{Attributes, union}
-use Rattle.dep_model.specs.declared.schema.Schema.{Schema}
+use Rattle.schema_model.specs.Schemas.{Schema}
 use Rattle.dep_model.specs.Projections.{members_below}
-use Rattle.dep_model.specs.Schemas.{width_of}
+use Rattle.schema_model.specs.Schemas.{width_of}
 use Rattle.dep_model.specs.Tuples.{Relation, value_at}
 use Rattle.dep_model.proofs.ListLemmas.{map-member}
 use Rattle.sql_check_laws.proofs.CountLemmas.{AreWithin, from_unique, unique-append_within, unique-unique, filter-once}

@@ -8,9 +8,9 @@ use Rattle.std.specs.Set.{distinct_count, is_member}
 use Rattle.std.specs.Str.{bytes_eq}
 use lib.IntN.{pos-*ℤ-pos}
 use Rattle.attr_sets.specs.Attributes.{Attributes, union, IsSubset}
-use Rattle.dep_model.specs.declared.schema.Schema.{Schema}
+use Rattle.schema_model.specs.Schemas.{Schema}
 use Rattle.dep_model.specs.Projections.{members_below, project_tuple}
-use Rattle.dep_model.specs.Schemas.{width_of, universe_of}
+use Rattle.schema_model.specs.Schemas.{width_of, universe_of}
 use Rattle.dep_model.specs.Tuples.{Tuple, Relation, value_at, AgreeOn, IsOver}
 use Rattle.dep_model.proofs.DistinctLemmas.{filter-member, filter-keeps}
 use Rattle.dep_model.proofs.ListLemmas.{Contains-map, map-member}

@@ -4,9 +4,9 @@ use Rattle.std.proofs.lemmas.Bool.{cases_Bool}
 use Rattle.std.specs.Prelude.{ℤ, Contains, if◌then◌else◌, option_map, option_and_then, codes}
 use Rattle.std.specs.Set.{unique_keys}
 use Rattle.attr_sets.specs.Attributes.{Attributes}
-use Rattle.dep_model.specs.declared.schema.Schema.{Schema}
+use Rattle.schema_model.specs.Schemas.{Schema}
 use Rattle.dep_model.specs.Projections.{members_below}
-use Rattle.dep_model.specs.Schemas.{width_of}
+use Rattle.schema_model.specs.Schemas.{width_of}
 use Rattle.dep_model.specs.Tuples.{Tuple, Relation, value_at}
 use Rattle.dep_model.proofs.ListLemmas.{Contains-head, Contains-later, Contains-cases}
 use Rattle.dep_model.proofs.SchemeLemmas.{members_below-none, members_below-member, members_below-outside}
@@ -16,7 +16,7 @@ use Rattle.sql_check.specs.Checks.{values_query}
 use Rattle.sql_evaluation.specs.Cells.{Cell, missing, text, number, integer_text, text_of, followed_by, same_row}
 use Rattle.sql_evaluation.specs.Values.{each, bytes_of, named_cell, look_at}
 use Rattle.sql_evaluation.specs.Evaluation.{Engine, row_view, item_name, item_value, with_items, selected, evaluate}
-use Rattle.sql_check_laws.specs.HeldRelations.{IsHeld, AreHeld, compared_cell, Holds}
+use Rattle.sql_check_laws.specs.HeldRelations.{RowHolds, RowsHold, compared_cell, Holds}
 use Rattle.sql_check_laws.proofs.EachLemmas.{each-known, each-map, map-known, map-map}
 
 -- the values of a tuple on a set, as they are compared
@@ -74,7 +74,7 @@ module _ (s : Schema) (cast : List ℕ → Option ℤ) (cell : ℕ → List ℕ 
   abbrev shown_of : Tuple → List Cell
   shown_of t = map (λ k. shown k (value_at t k)) (members_below (width_of s) w)
 
-  row-shown : (names : List (List ℕ)) (row : List Cell) (t : Tuple) → IsHeld s cell names row t
+  row-shown : (names : List (List ℕ)) (row : List Cell) (t : Tuple) → RowHolds s cell names row t
       → each (item_value cast (row_view (look_at (codes "r") names row))) items ≡ Some (shown_of t)
   row-shown names row t held =
       each-map (item_value cast (row_view (look_at (codes "r") names row))) item (members_below (width_of s) w)
@@ -82,7 +82,7 @@ module _ (s : Schema) (cast : List ℕ → Option ℤ) (cell : ℕ → List ℕ 
       (members_below (width_of s) w) (λ k h. known names row t k (held k (member-low (width_of s) w k h)))
 
   -- ---- all rows
-  pub rows-shown : (names : List (List ℕ)) (rows : List (List Cell)) (r : Relation) → AreHeld s cell names rows r
+  pub rows-shown : (names : List (List ℕ)) (rows : List (List Cell)) (r : Relation) → RowsHold s cell names rows r
       → each (λ v. each (item_value cast v) items) (map row_view (map (look_at (codes "r") names) rows)) ≡ Some (map shown_of r)
   rows-shown names [] [] held = refl
   rows-shown names [] (t ∷ r) held = absurd held
@@ -95,7 +95,7 @@ module _ (s : Schema) (cast : List ℕ → Option ℤ) (cell : ℕ → List ℕ 
       ∙ ap (option_map (λ (ys : List (List Cell)). shown_of t ∷ ys)) rest
 
 pub rows-known : (s : Schema) (cast : List ℕ → Option ℤ) (cell : ℕ → List ℕ → Cell) (w : Attributes) (names : List (List ℕ)) (rows : List (List Cell)) (r : Relation)
-    → AreHeld s cell names rows r
+    → RowsHold s cell names rows r
     → each (λ v. each (item_value cast v) (compared_on s w)) (map row_view (map (look_at (codes "r") names) rows)) ≡ Some (map (cells_on s cell w) r)
 rows-known s cast cell w = rows-shown s cast cell (compared_at s) (compared_cell cell) (item-known s cast cell) w
 

@@ -7,16 +7,17 @@ use Rattle.std.specs.Fmt.{decimal}
 use Rattle.std.specs.Prelude.{ℤ, pos, negsuc, nat_eq, nat_lt, if◌then◌else◌}
 use Rattle.std.specs.Str.{bytes_eq}
 use Rattle.std.specs.Str.Parse.{digits_value}
-use Rattle.dep_model.specs.declared.schema.Schema.{Schema}
-use Rattle.dep_model.specs.Integers.{IsPositiveNumeral, IsIntegerText}
+use Rattle.schema_model.specs.Schemas.{Schema}
+use Rattle.schema_model.specs.Integers.{IsPositiveNumeral, IsIntegerText}
 use Rattle.dep_model.specs.Projections.{members_below}
-use Rattle.dep_model.specs.Schemas.{width_of, universe_of}
+use Rattle.schema_model.specs.Schemas.{width_of, universe_of}
 use Rattle.dep_model.specs.Tuples.{Tuple, Relation, value_at}
-use Rattle.dep_model.proofs.NumeralLemmas.{decimal_zero, decimal_numeral_model, decimal_integer}
+use Rattle.dep_model.proofs.TwoTupleLemmas.{decimal_zero}
+use Rattle.schema_model.proofs.NumeralLemmas.{decimal_numeral_model, decimal_integer}
 use Rattle.sql_check.specs.Columns.{name_at}
 use Rattle.sql_evaluation.specs.Cells.{Cell, text, integer_text}
 use Rattle.sql_evaluation.specs.Evaluation.{Rows, Engine}
-use Rattle.sql_check_laws.specs.HeldRelations.{AreHeld, AreApart, Holds, CastsIntegers}
+use Rattle.sql_check_laws.specs.HeldRelations.{RowsHold, AreApart, Holds, CastsIntegers}
 use Rattle.sql_check_laws.proofs.CellLemmas.{is_member_of, names_on_apart}
 use Rattle.sql_check_laws.proofs.ColumnLemmas.{bytes_same, bytes_self, named_cell-member}
 use Rattle.sql_check_laws.proofs.GroupLemmas.{Cells}
@@ -34,7 +35,7 @@ table_of s cell r = record {
 }
 
 all_held : (s : Schema) (cell : Cells) (r : Relation)
-    → AreHeld s cell (map (name_at s) (members_below (width_of s) (universe_of s))) (map (cells_of_tuple s cell) r) r
+    → RowsHold s cell (map (name_at s) (members_below (width_of s) (universe_of s))) (map (cells_of_tuple s cell) r) r
 all_held s cell [] = tt
 all_held s cell (t ∷ r) = (
   λ k low. named_cell-member (name_at s) (λ (j : ℕ). cell j (value_at t j)) (members_below (width_of s) (universe_of s)) k (names_on_apart s (universe_of s))

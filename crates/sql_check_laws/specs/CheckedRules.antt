@@ -1,11 +1,11 @@
 -- What the queries of `sql check` tell of a relation: for the laws of these queries, and for the script
 -- (`sql_scripts`).
 use Rattle.std.specs.Prelude.{◌≡◌, ◌↔◌, ℕ, ◌<◌, true, false, Option, Some, List, [], All, Contains, MatchOption, ⊤, codes}
-use Rattle.dep_model.specs.declared.column_type.ColumnType.TheVariants.{Integer}
-use Rattle.dep_model.specs.declared.schema.Schema.{Schema}
+use Rattle.schema_model.specs.declared.column_type.ColumnType.TheVariants.{Integer}
+use Rattle.schema_model.specs.Schemas.{Schema}
 use Rattle.dep_model.specs.Dependencies.{Dependency, Obeys}
-use Rattle.dep_model.specs.Integers.{IsIntegerText}
-use Rattle.dep_model.specs.Schemas.{width_of, LegalFor}
+use Rattle.schema_model.specs.Integers.{IsIntegerText}
+use Rattle.schema_model.specs.Schemas.{width_of, LegalFor}
 use Rattle.dep_model.specs.Tuples.{Tuple, Relation, value_at}
 use Rattle.sql_syntax.specs.Syntax.{Query}
 use Rattle.sql_check.specs.Columns.{type_at, column_at}

@@ -1,8 +1,8 @@
 -- A table of an engine that holds a relation: for the laws of the queries of `sql check`.
 use Rattle.std.specs.Prelude.{◌≡◌, ℕ, ℤ, ◌<◌, Bool, if◌then◌else◌, Option, Some, List, [], ◌∷◌, Contains}
-use Rattle.dep_model.specs.declared.schema.Schema.{Schema}
-use Rattle.dep_model.specs.Integers.{IsIntegerText}
-use Rattle.dep_model.specs.Schemas.{width_of, nullable_of}
+use Rattle.schema_model.specs.Schemas.{Schema}
+use Rattle.schema_model.specs.Integers.{IsIntegerText}
+use Rattle.schema_model.specs.Schemas.{width_of, nullable_of}
 use Rattle.dep_model.specs.Tuples.{Tuple, Relation, value_at}
 use Rattle.sql_check.specs.Columns.{name_at}
 use Rattle.sql_evaluation.specs.Cells.{Cell, missing, text, integer_text, text_of}
@@ -10,15 +10,15 @@ use Rattle.sql_evaluation.specs.Values.{named_cell}
 use Rattle.sql_evaluation.specs.Evaluation.{Rows, Engine}
 
 -- a row has the values of a tuple in the columns of the attributes, whatever other columns it has
-abbrev pub IsHeld : Schema → (ℕ → List ℕ → Cell) → List (List ℕ) → List Cell → Tuple → Type 0
-IsHeld s cell names row t =
+abbrev pub RowHolds : Schema → (ℕ → List ℕ → Cell) → List (List ℕ) → List Cell → Tuple → Type 0
+RowHolds s cell names row t =
     (k : ℕ) → k < width_of s → named_cell names row (name_at s k) ≡ Some (cell k (value_at t k))
 
 -- each row has the values of the tuple in its place
-abbrev pub AreHeld : Schema → (ℕ → List ℕ → Cell) → List (List ℕ) → List (List Cell) → Relation → Type 0
-AreHeld s cell names [] [] = Unit {0}
-AreHeld s cell names (row ∷ rows) (t ∷ r) = IsHeld s cell names row t × AreHeld s cell names rows r
-AreHeld s cell names rows r = ⊥
+abbrev pub RowsHold : Schema → (ℕ → List ℕ → Cell) → List (List ℕ) → List (List Cell) → Relation → Type 0
+RowsHold s cell names [] [] = Unit {0}
+RowsHold s cell names (row ∷ rows) (t ∷ r) = RowHolds s cell names row t × RowsHold s cell names rows r
+RowsHold s cell names rows r = ⊥
 
 -- a value as it is compared: by its text, whatever its type
 abbrev pub compared_cell : (ℕ → List ℕ → Cell) → ℕ → List ℕ → Cell
@@ -34,7 +34,7 @@ AreApart s cell r =
 pub record Holds (e : Engine) (table : List ℕ) (s : Schema) (cell : ℕ → List ℕ → Cell) (r : Relation) : Type 0 where
   pub given : Rows
   pub known : e.tables table ≡ Some given
-  pub held : AreHeld s cell given.names given.rows r
+  pub held : RowsHold s cell given.names given.rows r
   pub apart : AreApart s cell r
 
 -- an engine casts the text of an integer of 64 bits to this integer, and gives such integers alone. Of

@@ -1,6 +1,6 @@
 ghost use Rattle.std.specs.Prelude.{◌≡◌, ◌↔◌, ◌<◌, ℕ, List, [], true};
-ghost use Rattle.dep_model.specs.declared.schema.Schema.{Schema};
-ghost use Rattle.dep_model.specs.Schemas.{width_of, nullable_of, LegalFor};
+ghost use Rattle.schema_model.specs.Schemas.{Schema};
+ghost use Rattle.schema_model.specs.Schemas.{width_of, nullable_of, LegalFor};
 ghost use Rattle.dep_model.specs.Tuples.{Relation, IsOver};
 ghost use Rattle.sql_check.specs.Checks.{required_query};
 ghost use Rattle.sql_evaluation.specs.Cells.{Cell, missing, text};

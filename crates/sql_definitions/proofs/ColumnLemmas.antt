@@ -4,8 +4,8 @@ use Rattle.std.specs.Prelude.{All, IsTrue}
 use Rattle.std.proofs.lemmas.List.Elements.{All-get_or, All-append}
 use Rattle.std.proofs.lemmas.List.Quantifiers.{all_pairs_push}
 use Rattle.attr_sets.specs.declared.set.TheConstants.{MOST_ATTRIBUTES}
-use Rattle.dep_model.specs.Columns.{is_column_type}
-use Rattle.dep_model.specs.Names.{IsName, same_name}
+use Rattle.schema_model.specs.Columns.{is_column_type}
+use Rattle.schema_model.specs.Names.{IsName, same_name}
 use Rattle.sql_definitions.specs.Facts.{AreColumns, StatedColumn}
 
 one_column : (P : StatedColumn → Type 0) (column : StatedColumn) → P column → All P (column ∷ [])

@@ -1,6 +1,6 @@
 -- Bytes are a name where the test says so.
 use Rattle.std.proofs.Common.{◌≡◌, ◌↔◌, ℕ, Bool, true, false, cond, Option, Some, None, List, IsSome, IfSome, refl, ap}
-use Rattle.dep_model.specs.Names.{IsName}
+use Rattle.schema_model.specs.Names.{IsName}
 
 pub name_by_test : (o : Option (List ℕ)) (test : Bool) (bytes : List ℕ) → (IsSome o ↔ IsName bytes) → ((test ≡ true) ↔ IsName bytes)
     → IfSome o (λ name. name ≡ bytes) → o ≡ cond test (Some bytes) None

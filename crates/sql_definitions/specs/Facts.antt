@@ -3,10 +3,10 @@ use Rattle.std.specs.Prelude.{◌≡◌, ℕ, ◌≤◌, Bool, true, false, nat_
 use Rattle.attr_sets.specs.declared.set.TheConstants.{MOST_ATTRIBUTES}
 use Rattle.dep_model.specs.declared.failure.Failure.{Failure}
 use Rattle.dep_model.specs.declared.failure.Failure.TheVariants.{Refused, OutOfMemory}
-use Rattle.dep_model.specs.declared.schema.TheConstants.{MOST_DEPENDENCIES}
-use Rattle.dep_model.specs.Columns.{is_column_type}
-use Rattle.dep_model.specs.Names.{IsName, same_name}
-use Rattle.dep_model.specs.declared.column_type.ColumnType.{ColumnType}
+use Rattle.dep_model.specs.declared.theory.TheConstants.{MOST_DEPENDENCIES}
+use Rattle.schema_model.specs.Columns.{is_column_type}
+use Rattle.schema_model.specs.Names.{IsName, same_name}
+use Rattle.schema_model.specs.declared.column_type.ColumnType.{ColumnType}
 use Rattle.sql_definitions.specs.declared.definition.KeyKind.{KeyKind}
 use Rattle.sql_definitions.specs.declared.refusal.Reason.{Reason}
 use Rattle.sql_definitions.specs.declared.refusal.Reason.TheVariants as reason

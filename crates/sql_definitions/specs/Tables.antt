@@ -1,7 +1,7 @@
 -- The statements that create a table, add a key to it or make a unique index over it: for the definition of a table.
 use Rattle.std.specs.Prelude.{ℕ, ◌+◌, ◌-◌, ◌==◌, zero, suc, nat_le, Bool, true, false, not, ◌&&◌, ◌||◌, Option, Some, None, option_and_then, option_map, Ok, List, [], ◌∷◌, length, take, drop, codes, slice_get, if◌then◌else◌}
 use Rattle.std.specs.List.{list_any, position_or_len}
-use Rattle.dep_model.specs.Names.{same_name}
+use Rattle.schema_model.specs.Names.{same_name}
 use Rattle.sql_lexemes.specs.declared.dialect.Dialect.{Dialect}
 use Rattle.sql_lexemes.specs.Lexemes.{Lexed}
 use Rattle.sql_lexemes.specs.Statements.{is_word, is_mark, is_a_word}

@@ -1,8 +1,8 @@
 //! The columns of a table.
 
 ghost use Rattle.std.specs.Prelude.{◌≡◌, ◌≤◌, ◌∷◌, [], length, IfErr, IfOk, IsTrue, Ok, OnOk, Some};
-ghost use Rattle.dep_model.specs.Columns.{is_column_type};
-ghost use Rattle.dep_model.specs.Names.{IsName};
+ghost use Rattle.schema_model.specs.Columns.{is_column_type};
+ghost use Rattle.schema_model.specs.Names.{IsName};
 ghost use Rattle.std.specs.List.{list_any};
 ghost use Rattle.sql_definitions.specs.Facts.{Fails};
 ghost use Rattle.sql_definitions.specs.Elements.{column, column_keys, column_of, ending_words, ends_type, has_column_named, key_at, named_column, says_not_null, type_length};
@@ -15,7 +15,8 @@ use crate::names::{is_name, name_of_lexeme};
 use crate::refusal::{Reason, Refusal};
 use crate::types::{column_type, is_outside, is_serial, type_text};
 use attr_sets::MOST_ATTRIBUTES;
-use dep_model::{Failure, Name, OutOfMemory};
+use dep_model::{Failure, OutOfMemory};
+use schema_model::Name;
 use sql_lexemes::{Dialect, Lexeme, begins_with, is_word};
 use std::alloc::Global;
 

@@ -1,12 +1,13 @@
 ghost use Rattle.std.specs.Prelude.{◌≡◌, ◌<◌, length, All, IsTrue, OnOk, IfErr, Ok, false};
 ghost use Rattle.attr_sets.specs.declared.set.TheConstants.{MOST_ATTRIBUTES};
-ghost use Rattle.dep_model.specs.Columns.{is_column_type};
+ghost use Rattle.schema_model.specs.Columns.{is_column_type};
 ghost use Rattle.dep_model.specs.Failures.{RefusesAs};
-ghost use Rattle.dep_model.specs.Names.{IsName, same_name};
+ghost use Rattle.schema_model.specs.Names.{IsName, same_name};
 ghost use Rattle.sql_definitions.specs.Facts.{AreColumns, Fails, as_found, no_facts, state_key, with_column, with_key};
 
 use crate::refusal::{Reason, Refusal};
-use dep_model::{ColumnType, Failure, MOST_DEPENDENCIES, Name, OutOfMemory};
+use dep_model::{Failure, MOST_DEPENDENCIES, OutOfMemory};
+use schema_model::{ColumnType, Name};
 use std::alloc::Global;
 use std::marker::Model;
 

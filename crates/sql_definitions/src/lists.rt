@@ -1,7 +1,7 @@
 //! Lists of columns in brackets, and which of their parts are columns.
 
 ghost use Rattle.std.specs.Prelude.{◌≡◌, ◌≤◌, ◌||◌, [], true, length, IfOk, IfErr, Ok};
-ghost use Rattle.dep_model.specs.Names.{IsName};
+ghost use Rattle.schema_model.specs.Names.{IsName};
 ghost use Rattle.sql_definitions.specs.Facts.{Fails};
 ghost use Rattle.sql_definitions.specs.Lists.{are_columns, closes_list, ends_column, is_one_of, list_parts, lists_columns, name_of, order_words, part_length, part_of, parts_list, past_class, past_collation, past_direction, past_nulls_order, read_list};
 
@@ -9,7 +9,8 @@ use crate::definition::Part;
 use crate::names::{is_name, name_of_lexeme};
 use crate::refusal::{Reason, Refusal};
 use crate::wanted::{from, name_length};
-use dep_model::{Failure, Name, OutOfMemory};
+use dep_model::{Failure, OutOfMemory};
+use schema_model::Name;
 use sql_lexemes::{Dialect, Lexeme, is_mark, is_word};
 use std::alloc::Global;
 

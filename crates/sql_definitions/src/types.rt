@@ -2,13 +2,14 @@
 
 ghost use Rattle.std.specs.Prelude.{◌≡◌, ◌++◌, ◌||◌, ◌∷◌, [], true, bytes_eq, codes, unwrap_or, if◌then◌else◌, IfOk, IfSome, IsTrue, OnOk};
 ghost use Rattle.std.specs.List.{list_all, list_any};
-ghost use Rattle.dep_model.specs.Columns.{is_column_type};
+ghost use Rattle.schema_model.specs.Columns.{is_column_type};
 ghost use Rattle.sql_lexemes.specs.Statements.{is_a_word};
 ghost use Rattle.sql_definitions.specs.Types as types;
 ghost use Rattle.sql_definitions.specs.Types.{written_lexeme};
 
 use crate::names::lower_text;
-use dep_model::{ColumnType, OutOfMemory, TypeName};
+use dep_model::OutOfMemory;
+use schema_model::{ColumnType, TypeName};
 use sql_lexemes::{Dialect, Lexeme, LexemeKind, is_mark, is_postgres};
 use std::alloc::Global;
 

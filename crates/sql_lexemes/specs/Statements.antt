@@ -1,6 +1,6 @@
 -- The statements of a SQL text: for `cut_statement`, and for all that reads statements.
 use Rattle.std.specs.Prelude.{◌≡◌, ℕ, ◌+◌, ◌-◌, ◌==◌, ◌<◌, zero, suc, Bool, true, false, ◌&&◌, Option, Some, None, List, [], ◌∷◌, ◌++◌, length, take, drop, codes, bytes_eq, if◌then◌else◌}
-use Rattle.dep_model.specs.Names.{same_name}
+use Rattle.schema_model.specs.Names.{same_name}
 use Rattle.sql_lexemes.specs.declared.dialect.Dialect.{Dialect}
 use Rattle.sql_lexemes.specs.declared.lexeme.LexemeKind.{LexemeKind}
 use Rattle.sql_lexemes.specs.declared.lexeme.LexemeKind.TheVariants as kind

@@ -3,9 +3,9 @@ use Rattle.std.specs.Prelude.{ℕ, if◌then◌else◌, not, List, [], ◌∷◌
 use Rattle.std.specs.List.{flat_map}
 use Rattle.attr_sets.specs.Attributes.{Attributes}
 use Rattle.attr_sets.specs.Sets.{attributes}
-use Rattle.dep_model.specs.declared.schema.Schema.{Schema}
+use Rattle.schema_model.specs.Schemas.{Schema}
 use Rattle.dep_model.specs.Projections.{members_below}
-use Rattle.dep_model.specs.Schemas.{width_of, nullable_of}
+use Rattle.schema_model.specs.Schemas.{width_of, nullable_of}
 use Rattle.ddl_text.specs.declared.table.TableDesign.{TableDesign}
 use Rattle.ddl_text.specs.Ddl.{sql_type, is_empty, is_never_missing}
 use Rattle.ddl_text.specs.Designs.{known_keys}

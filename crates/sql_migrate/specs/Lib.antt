@@ -1,6 +1,5 @@
 -- The definitions of sql_migrate, in reading order: columns that go from table to table, the tables
--- of a design, the order of a view, and the script.
+-- of a design, and the script.
 pub mod Moving
-pub mod ViewOrder
 pub mod Created
 pub mod Script

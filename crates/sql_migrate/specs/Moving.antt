@@ -1,10 +1,10 @@
 -- The columns of the user's table in the statements of `sql migrate`: for the script (`Script`).
 use Rattle.std.specs.Prelude.{ℕ, Bool, if◌then◌else◌, List, map, codes}
 use Rattle.attr_sets.specs.Attributes.{Attributes}
-use Rattle.dep_model.specs.declared.schema.Schema.{Schema}
-use Rattle.dep_model.specs.Columns.{is_plain_type}
+use Rattle.schema_model.specs.Schemas.{Schema}
+use Rattle.schema_model.specs.Columns.{is_plain_type}
 use Rattle.dep_model.specs.Projections.{members_below}
-use Rattle.dep_model.specs.Schemas.{names_of, width_of}
+use Rattle.schema_model.specs.Schemas.{names_of, width_of}
 use Rattle.schema_printer.specs.Printing.{members_from, is_integer}
 use Rattle.sql_syntax.specs.Syntax.{ColumnName, attribute, column, as_integer, Item, own, unnamed}
 use Rattle.sql_migrate.specs.declared.moving.Move.{Move}

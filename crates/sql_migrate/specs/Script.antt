@@ -2,8 +2,9 @@
 use Rattle.std.specs.Prelude.{ℕ, true, false, if◌then◌else◌, None, List, [], ◌∷◌, ◌++◌, map, replicate, codes}
 use Rattle.attr_sets.specs.Attributes.{Attributes, union, intersection}
 use Rattle.attr_sets.specs.Sets.{attributes}
-use Rattle.dep_model.specs.declared.schema.Schema.{Schema}
-use Rattle.dep_model.specs.Schemas.{width_of, universe_of}
+use Rattle.dep_model.specs.JoinOrders.{from_last}
+use Rattle.schema_model.specs.Schemas.{Schema}
+use Rattle.schema_model.specs.Schemas.{width_of, universe_of}
 use Rattle.ddl_text.specs.declared.table.TableDesign.{TableDesign}
 use Rattle.ddl_text.specs.Ddl.{is_empty}
 use Rattle.sql_syntax.specs.Names.{quoted_name}
@@ -14,7 +15,6 @@ use Rattle.sql_migrate.specs.declared.joining.JoinedTable.{JoinedTable}
 use Rattle.sql_migrate.specs.Moving.{attribute_names, copied_on, moved_on}
 use Rattle.sql_migrate.specs.declared.moving.Move.TheVariants.{Entering, Returning}
 use Rattle.sql_migrate.specs.Created.{tables_made}
-use Rattle.sql_migrate.specs.ViewOrder.{view_order}
 
 -- ---- names
 -- of the copy of the user's table, of the view, and of the table of the test
@@ -62,6 +62,14 @@ join_of s (first ∷ tables) =
 -- the tables of a design, by their names and schemes
 abbrev pub joined_tables : List TableDesign → List JoinedTable
 joined_tables tables = map (λ table. record { name = table.name; scheme = table.scheme }) tables
+
+-- the attributes of a table that is joined
+abbrev pub scheme_of_joined : JoinedTable → Attributes
+scheme_of_joined table = attributes table.scheme
+
+-- tables in the order in which the view joins them
+abbrev pub view_order : List JoinedTable → List JoinedTable
+view_order tables = from_last scheme_of_joined tables
 
 unfoldable pub view_query : Schema → List TableDesign → Query
 view_query s tables = join_of s (view_order (joined_tables tables))

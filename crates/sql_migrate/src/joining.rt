@@ -1,5 +1,5 @@
 use attr_sets::AttrSet;
-use dep_model::Name;
+use schema_model::Name;
 
 /// A table that a view joins.
 #[derive(Clone, Copy)]

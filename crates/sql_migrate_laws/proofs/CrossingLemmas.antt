@@ -1,11 +1,12 @@
 -- In the order of the view a table shares nothing with those before it only where none that is left does.
-use Rattle.std.proofs.Common.{◌≡◌, ℕ, ◌⊎◌, zero, suc, Bool, true, false, List, [], ◌∷◌, ◌++◌, length, refl, sym, ap, subst, ◌∙◌, inl, inr, ⊎_elim, arith}
+use Rattle.std.proofs.Common.{◌≡◌, ℕ, ◌⊎◌, zero, suc, Bool, true, false, not, List, [], ◌∷◌, ◌++◌, length, refl, sym, ap, subst, ◌∙◌, inl, inr, ⊎_elim, arith}
 use Rattle.std.proofs.lemmas.Bool.{true≢false}
 use Rattle.std.specs.Prelude.{if◌then◌else◌, reverse}
 use Rattle.attr_sets.specs.Attributes.{Attributes, none, union}
-use Rattle.attr_sets.specs.Sets.{attributes}
+use Rattle.attr_sets.specs.Sets.{attributes, is_disjoint}
+use Rattle.dep_model.specs.JoinOrders.{put_first, of_first, joined_next}
 use Rattle.sql_migrate.specs.declared.joining.JoinedTable.{JoinedTable}
-use Rattle.sql_migrate.specs.ViewOrder.{share, put_first, of_first, joined_next, view_order}
+use Rattle.sql_migrate.specs.Script.{scheme_of_joined, view_order}
 use Rattle.sql_migrate_laws.specs.Crossing.{PartsAreCrossed}
 use Rattle.sql_migrate_laws.proofs.OrderedLemmas.{Each, each_member, each_after, each_next}
 
@@ -32,22 +33,27 @@ put_or_none {X} test passed (x ∷ xs) before =
 
 -- ---- the order
 abbrev shares : Attributes → JoinedTable → Bool
-shares seen t = share seen (attributes t.scheme)
+shares seen t = not (is_disjoint seen (attributes t.scheme))
 
-next_crosses : (n : ℕ) (seen : Attributes) (left : List JoinedTable) → PartsAreCrossed seen (joined_next n seen left)
+not_false : (b : Bool) → not b ≡ false → b ≡ true
+not_false true h = refl
+not_false false h = absurd (true≢false h)
+
+next_crosses : (n : ℕ) (seen : Attributes) (left : List JoinedTable) → PartsAreCrossed seen (joined_next scheme_of_joined n seen left)
 next_crosses zero seen left = tt
 next_crosses (suc n) seen left =
     first_of (put_first (shares seen) [] left) (put_or_none (shares seen) [] left tt) (next_crosses n)
   where
     first_of : (found : List JoinedTable) → FirstPasses (shares seen) found ⊎ Each (Fails (shares seen)) found
-        → ((with : Attributes) (rest : List JoinedTable) → PartsAreCrossed with (joined_next n with rest))
-        → PartsAreCrossed seen (of_first (λ table rest. table ∷ joined_next n (union seen (attributes table.scheme)) rest) found)
+        → ((with : Attributes) (rest : List JoinedTable) → PartsAreCrossed with (joined_next scheme_of_joined n with rest))
+        → PartsAreCrossed seen (of_first (λ table rest. table ∷ joined_next scheme_of_joined n (union seen (attributes table.scheme)) rest) found)
     first_of [] which later = tt
     first_of (table ∷ rest) which later = (
       λ fails other h. ⊎_elim
-          (λ (passes : shares seen table ≡ true). absurd (true≢false (sym passes ∙ fails)))
-          (λ all. each_member (Fails (shares seen)) (table ∷ joined_next n (union seen (attributes table.scheme)) rest) other
-          (all.0, each_next (Fails (shares seen)) n (union seen (attributes table.scheme)) rest all.1) h)
+          (λ (passes : shares seen table ≡ true). absurd (true≢false (sym passes ∙ ap not fails)))
+          (λ all. not_false (is_disjoint seen (attributes other.scheme))
+          (each_member (Fails (shares seen)) (table ∷ joined_next scheme_of_joined n (union seen (attributes table.scheme)) rest) other
+          (all.0, each_next (Fails (shares seen)) n (union seen (attributes table.scheme)) rest all.1) h))
           which,
       later (union seen (attributes table.scheme)) rest,
     )

@@ -9,13 +9,14 @@ use Rattle.std.specs.List.Sorted.{IsPermutation}
 use Rattle.attr_sets.specs.Attributes.{Attributes, none, union, intersection, IsSubset}
 use Rattle.attr_sets.specs.Sets.{attributes}
 use Rattle.attr_sets.proofs.AttributesLemmas.{is_subset-true}
-use Rattle.dep_model.specs.declared.column_type.ColumnType.TheVariants.{Integer}
-use Rattle.dep_model.specs.declared.schema.Schema.{Schema}
+use Rattle.schema_model.specs.declared.column_type.ColumnType.TheVariants.{Integer}
+use Rattle.schema_model.specs.Schemas.{Schema}
 use Rattle.dep_model.specs.Projections.{members_below, IsLossless}
-use Rattle.dep_model.specs.Schemas.{width_of, universe_of, theory_of, nullable_of, LegalFor}
+use Rattle.schema_model.specs.Schemas.{width_of, universe_of, theory_of, nullable_of, LegalFor}
 use Rattle.dep_model.specs.Tuples.{Tuple, Relation, value_at}
 use Rattle.dep_model.proofs.JoinLemmas.{IsProjected, in_join-from, projected-from}
 use Rattle.dep_model.proofs.ListLemmas.{Contains-head, Contains-later, Contains-cases, Contains-map, map-member}
+use Rattle.dep_model.proofs.PairLemmas.{first_pairs, later_pairs}
 use Rattle.dep_model.proofs.PermutationLemmas.{AllPairs-permutation}
 use Rattle.schema_printer.specs.Printing.{is_integer}
 use Rattle.ddl_text.specs.declared.table.TableDesign.{TableDesign}
@@ -37,22 +38,13 @@ use Rattle.sql_check_laws.proofs.ValuesLemmas.{cells_on, names_on, followed_by_n
 use Rattle.sql_migrate.specs.declared.joining.JoinedTable.{JoinedTable}
 use Rattle.sql_migrate.specs.declared.moving.Move.TheVariants.{Returning}
 use Rattle.sql_migrate.specs.Moving.{attribute_names, moved, moved_at, moved_on}
-use Rattle.sql_migrate.specs.Script.{link, links, join_of, joined_tables, view_query}
-use Rattle.sql_migrate.specs.ViewOrder.{view_order}
+use Rattle.sql_migrate.specs.Script.{link, links, join_of, joined_tables, view_order, view_query}
 use Rattle.sql_migrate_laws.proofs.RowLemmas.{each-all, each-from}
 use Rattle.sql_migrate_laws.specs.Ending.{ShareRequired, AreComparable}
 use Rattle.sql_migrate_laws.proofs.EnteredLemmas.{Cells, entered, returned-known}
 use Rattle.sql_migrate_laws.proofs.JoinedLemmas.{with_names, row_at, projected, InEach, IsJoinOf, join_more, row-projected, projected-row}
 use Rattle.sql_migrate_laws.proofs.NameLemmas.{attribute_names-are}
 use Rattle.sql_migrate_laws.proofs.OrderLemmas.{order_moved}
-
--- ---- pairs of a list
-first_pairs : {X : Type 0} (R : X → X → Type 0) (x : X) (xs : List X) → AllPairs R (x ∷ xs) → (y : X) → Contains xs y → R x y
-first_pairs R x xs all y h =
-    subst (R x) h.2 (all 0 (suc h.0) y (omega arith) (let low = h.1 in omega (arith, low)))
-
-later_pairs : {X : Type 0} (R : X → X → Type 0) (x : X) (xs : List X) → AllPairs R (x ∷ xs) → AllPairs R xs
-later_pairs R x xs all i j d before low = all (suc i) (suc j) d (omega (arith, before)) (omega (arith, low))
 
 -- ---- one link
 no_members : (s : Schema) (x : Attributes) → IsSubset x (universe_of s) → is_empty x ≡ true → members_below (width_of s) x ≡ []
@@ -170,7 +162,7 @@ module _ (cast : Cast) (s : Schema) (cell : Cells) (r : Relation) (casts : Casts
       linked-is e s shared a x (λ k m. here.1 k (grind (arith, m))) ∙ ap (option_and_then (joined_by (names_on s shared) a)) here.0 ∙ next.1 in
       let rest = all-linked e ts (x ∷ done) (union seen (attributes x.scheme)) next.0 next.2 (λ y h. tables y (Contains-later x ts y h)) (later_pairs (SharesRequired s) x ts pairs)
       (λ y z h m. ⊎_elim
-      (λ (same : y ≡ x). subst (λ (v : JoinedTable). SharesRequired s v z) (sym same) (first_pairs (SharesRequired s) x ts pairs z m))
+      (λ (same : y ≡ x). subst (λ (v : JoinedTable). SharesRequired s v z) (sym same) (first_pairs (SharesRequired s) x ts z pairs m))
       (λ later. before y z later (Contains-later x ts z m))
       (Contains-cases x done y h)) in
       record {
@@ -224,7 +216,7 @@ module _ (cast : Cast) (s : Schema) (cell : Cells) (r : Relation) (casts : Casts
       let linked = all-linked e rest (first ∷ []) (attributes first.scheme) (projected s cast cell r (attributes first.scheme)) (first_join first)
       (λ y h. tables y (Contains-later first rest y h)) (later_pairs (SharesRequired s) first rest pairs)
       (λ y x h m. ⊎_elim
-      (λ (is : y ≡ first). subst (λ (v : JoinedTable). SharesRequired s v x) (sym is) (first_pairs (SharesRequired s) first rest pairs x m))
+      (λ (is : y ≡ first). subst (λ (v : JoinedTable). SharesRequired s v x) (sym is) (first_pairs (SharesRequired s) first rest x pairs m))
       (λ later. absurd (omega (arith, later.1)))
       (Contains-cases first [] y h)) in
       let j = linked.join in

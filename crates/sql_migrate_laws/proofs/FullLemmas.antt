@@ -12,10 +12,10 @@ use Rattle.attr_sets.specs.Attributes.{Attributes, IsSubset}
 use Rattle.attr_sets.specs.Sets.{attributes}
 use Rattle.sql_check_laws.proofs.CountLemmas.{equivalence, unique-unique}
 use Rattle.ddl_text.specs.KeysAndReferences.{KeyHolds}
-use Rattle.dep_model.specs.declared.column_type.ColumnType.TheVariants.{Integer}
-use Rattle.dep_model.specs.declared.schema.Schema.{Schema}
+use Rattle.schema_model.specs.declared.column_type.ColumnType.TheVariants.{Integer}
+use Rattle.schema_model.specs.Schemas.{Schema}
 use Rattle.dep_model.specs.Projections.{members_below, project_tuple, ordered_projection}
-use Rattle.dep_model.specs.Schemas.{width_of, universe_of, nullable_of}
+use Rattle.schema_model.specs.Schemas.{width_of, universe_of, nullable_of}
 use Rattle.dep_model.specs.Tuples.{Tuple, Relation, value_at}
 use Rattle.dep_model.proofs.DistinctLemmas.{ordered_projection-same}
 use Rattle.dep_model.proofs.JoinLemmas.{agree-from_projections}

@@ -9,9 +9,9 @@ use Rattle.std.specs.Set.{unique_keys}
 use Rattle.std.specs.Str.{bytes_eq}
 use Rattle.attr_sets.specs.Attributes.{Attributes}
 use Rattle.attr_sets.specs.Sets.{attributes}
-use Rattle.dep_model.specs.declared.schema.Schema.{Schema}
+use Rattle.schema_model.specs.Schemas.{Schema}
 use Rattle.dep_model.specs.Projections.{members_below}
-use Rattle.dep_model.specs.Schemas.{width_of, universe_of}
+use Rattle.schema_model.specs.Schemas.{width_of, universe_of}
 use Rattle.dep_model.specs.Tuples.{Tuple, Relation, value_at}
 use Rattle.ddl_text.specs.declared.table.TableDesign.{TableDesign}
 use Rattle.ddl_text.specs.Ddl.{is_empty}

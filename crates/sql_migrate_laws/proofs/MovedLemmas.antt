@@ -4,8 +4,8 @@ use Rattle.std.proofs.lemmas.Bool.{cases_Bool, true≢false}
 use Rattle.std.specs.Prelude.{Contains, if◌then◌else◌, option_and_then, codes, is_some}
 use Rattle.std.specs.Str.{bytes_eq}
 use Rattle.attr_sets.specs.Sets.{attributes}
-use Rattle.dep_model.specs.declared.schema.Schema.{Schema}
-use Rattle.dep_model.specs.Schemas.{width_of, universe_of}
+use Rattle.schema_model.specs.Schemas.{Schema}
+use Rattle.schema_model.specs.Schemas.{width_of, universe_of}
 use Rattle.dep_model.specs.Tuples.{Tuple, Relation}
 use Rattle.dep_model.proofs.ListLemmas.{Contains-map, map-member}
 use Rattle.ddl_text.specs.declared.table.TableDesign.{TableDesign}

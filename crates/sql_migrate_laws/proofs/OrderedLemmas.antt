@@ -1,12 +1,13 @@
 -- What holds of each table of a design holds of each in the order of the view.
-use Rattle.std.proofs.Common.{◌≡◌, ℕ, zero, suc, Bool, true, false, List, [], ◌∷◌, ◌++◌, length, sym, subst, ⊎_elim, arith}
+use Rattle.std.proofs.Common.{◌≡◌, ℕ, zero, suc, Bool, true, false, not, List, [], ◌∷◌, ◌++◌, length, sym, subst, ⊎_elim, arith}
 use Rattle.std.proofs.lemmas.List.{reverse-append}
 use Rattle.std.specs.Prelude.{if◌then◌else◌, reverse, Contains}
 use Rattle.attr_sets.specs.Attributes.{Attributes, none, union}
-use Rattle.attr_sets.specs.Sets.{attributes}
+use Rattle.attr_sets.specs.Sets.{attributes, is_disjoint}
+use Rattle.dep_model.specs.JoinOrders.{put_first, of_first, joined_next}
 use Rattle.dep_model.proofs.ListLemmas.{Contains-cases}
 use Rattle.sql_migrate.specs.declared.joining.JoinedTable.{JoinedTable}
-use Rattle.sql_migrate.specs.ViewOrder.{share, put_first, of_first, joined_next, view_order}
+use Rattle.sql_migrate.specs.Script.{scheme_of_joined, view_order}
 
 -- ---- each member of a list
 abbrev pub Each : {X : Type 0} → (X → Type 0) → List X → Type 0
@@ -37,15 +38,15 @@ each_put P test passed (x ∷ xs) before left =
     by_test true later = (left.0, each_after P passed xs before left.1)
     by_test false later = later
 
-pub each_next : (P : JoinedTable → Type 0) (n : ℕ) (seen : Attributes) (left : List JoinedTable) → Each P left → Each P (joined_next n seen left)
+pub each_next : (P : JoinedTable → Type 0) (n : ℕ) (seen : Attributes) (left : List JoinedTable) → Each P left → Each P (joined_next scheme_of_joined n seen left)
 each_next P zero seen left all = tt
 each_next P (suc n) seen left all =
-    first_of (put_first (λ t. share seen (attributes t.scheme)) [] left)
-    (each_put P (λ t. share seen (attributes t.scheme)) [] left tt all) (each_next P n)
+    first_of (put_first (λ t. not (is_disjoint seen (attributes t.scheme))) [] left)
+    (each_put P (λ t. not (is_disjoint seen (attributes t.scheme))) [] left tt all) (each_next P n)
   where
     first_of : (found : List JoinedTable) → Each P found
-        → ((with : Attributes) (rest : List JoinedTable) → Each P rest → Each P (joined_next n with rest))
-        → Each P (of_first (λ table rest. table ∷ joined_next n (union seen (attributes table.scheme)) rest) found)
+        → ((with : Attributes) (rest : List JoinedTable) → Each P rest → Each P (joined_next scheme_of_joined n with rest))
+        → Each P (of_first (λ table rest. table ∷ joined_next scheme_of_joined n (union seen (attributes table.scheme)) rest) found)
     first_of [] every later = tt
     first_of (table ∷ rest) every later = (every.0, later (union seen (attributes table.scheme)) rest every.1)
 

@@ -3,8 +3,8 @@ use Rattle.std.proofs.Common.{◌≡◌, ℕ, Bool, true, false, List, [], ◌�
 use Rattle.std.specs.Prelude.{Contains, if◌then◌else◌, option_and_then, codes}
 use Rattle.attr_sets.specs.Attributes.{Attributes, union, intersection}
 use Rattle.attr_sets.specs.Sets.{attributes}
-use Rattle.dep_model.specs.declared.schema.Schema.{Schema}
-use Rattle.dep_model.specs.Schemas.{universe_of}
+use Rattle.schema_model.specs.Schemas.{Schema}
+use Rattle.schema_model.specs.Schemas.{universe_of}
 use Rattle.dep_model.proofs.ListLemmas.{Contains-head, Contains-later}
 use Rattle.ddl_text.specs.Ddl.{is_empty}
 use Rattle.ddl_text.specs.declared.table.TableDesign.{TableDesign}
@@ -16,9 +16,8 @@ use Rattle.sql_evaluation.specs.Running.{Held, view, State, Cast, rows_of_table,
 use Rattle.sql_migrate.specs.declared.joining.JoinedTable.{JoinedTable}
 use Rattle.sql_migrate.specs.declared.moving.Move.TheVariants.{Returning}
 use Rattle.sql_migrate.specs.Moving.{attribute_names, moved_on}
-use Rattle.sql_migrate.specs.ViewOrder.{view_order}
 use Rattle.sql_migrate_laws.proofs.OrderedLemmas.{Each, each_ordered}
-use Rattle.sql_migrate.specs.Script.{link, links, join_of, joined_tables, view_name, view_query, viewed_rows}
+use Rattle.sql_migrate.specs.Script.{link, links, join_of, joined_tables, view_name, view_order, view_query, viewed_rows}
 
 -- ---- engines that have the same
 abbrev Agree : Engine → Engine → List ℕ → Type 0

@@ -3,10 +3,10 @@
 use Rattle.std.specs.Prelude.{◌≡◌, ◌<◌, ℕ, Bool, true, false, Some, None, List, length, map, AllPairs, Contains, slice_get}
 use Rattle.attr_sets.specs.Attributes.{Attributes, IsSubset}
 use Rattle.attr_sets.specs.Sets.{attributes}
-use Rattle.dep_model.specs.declared.column_type.ColumnType.TheVariants.{Integer}
-use Rattle.dep_model.specs.declared.schema.Schema.{Schema}
+use Rattle.schema_model.specs.declared.column_type.ColumnType.TheVariants.{Integer}
+use Rattle.schema_model.specs.Schemas.{Schema}
 use Rattle.dep_model.specs.Projections.{IsLossless}
-use Rattle.dep_model.specs.Schemas.{width_of, universe_of, theory_of, nullable_of, LegalFor}
+use Rattle.schema_model.specs.Schemas.{width_of, universe_of, theory_of, nullable_of, LegalFor}
 use Rattle.dep_model.specs.Tuples.{Tuple, Relation, value_at}
 use Rattle.ddl_text.specs.declared.table.TableDesign.{TableDesign}
 use Rattle.ddl_text.specs.Designs.{known_keys, ReferToEarlier}

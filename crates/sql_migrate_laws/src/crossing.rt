@@ -1,6 +1,6 @@
 ghost use Rattle.std.specs.Prelude.{List};
 ghost use Rattle.attr_sets.specs.Attributes.{none};
-ghost use Rattle.sql_migrate.specs.ViewOrder.{view_order};
+ghost use Rattle.sql_migrate.specs.Script.{view_order};
 ghost use Rattle.sql_migrate.specs.declared.joining.JoinedTable.{JoinedTable};
 ghost use Rattle.sql_migrate_laws.specs.Crossing.{PartsAreCrossed};
 

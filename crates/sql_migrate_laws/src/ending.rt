@@ -1,5 +1,5 @@
 ghost use Rattle.std.specs.Prelude.{◌≡◌, ℕ, List};
-ghost use Rattle.dep_model.specs.declared.schema.Schema.{Schema};
+ghost use Rattle.schema_model.specs.Schemas.{Schema};
 ghost use Rattle.dep_model.specs.Tuples.{Relation};
 ghost use Rattle.ddl_text.specs.declared.table.TableDesign.{TableDesign};
 ghost use Rattle.sql_evaluation.specs.Cells.{Cell};

@@ -6,7 +6,7 @@ use Rattle.std.proofs.lemmas.List.{length-map}
 use Rattle.std.proofs.lemmas.List.Elements.{All-head, All-tail}
 use Rattle.attr_sets.specs.Attributes.{Attributes, IsSubset, below, difference}
 use Rattle.dep_model.specs.Dependencies.{Dependency}
-use Rattle.dep_model.specs.declared.naming.Naming.TheVariants.{Any}
+use Rattle.schema_model.specs.declared.naming.Naming.TheVariants.{Any}
 use Rattle.lexer.specs.Modes as mode
 use Rattle.lexer.specs.Pieces.{front_piece}
 use Rattle.lexer.proofs.Steps.{at_comment}

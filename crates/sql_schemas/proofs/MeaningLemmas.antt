@@ -4,9 +4,9 @@ use Rattle.std.specs.Prelude.{codes, map}
 use Rattle.std.proofs.lemmas.List.Elements.{All-nil}
 use Rattle.attr_sets.specs.Attributes.{Attributes, IsSubset, below, none}
 use Rattle.attr_sets.specs.declared.set.TheConstants.{MOST_ATTRIBUTES}
-use Rattle.dep_model.specs.Columns.{is_column_type}
-use Rattle.dep_model.specs.declared.column_type.ColumnType.{ColumnType}
-use Rattle.dep_model.specs.declared.naming.Naming.TheVariants.{Any, Bare}
+use Rattle.schema_model.specs.Columns.{is_column_type}
+use Rattle.schema_model.specs.declared.column_type.ColumnType.{ColumnType}
+use Rattle.schema_model.specs.declared.naming.Naming.TheVariants.{Any, Bare}
 use Rattle.lexer.specs.Bytes.{is_number}
 use Rattle.lexer.specs.Lines.{line_texts, without_mark}
 use Rattle.lexer.specs.Modes as mode

@@ -5,11 +5,11 @@ use Rattle.std.specs.List.{list_all, list_any}
 use Rattle.std.proofs.lemmas.Bool.Decides.{nat_tests}
 use Rattle.std.proofs.lemmas.List.Elements.{All-cons, All-nil}
 use Rattle.attr_sets.specs.declared.set.TheConstants.{MOST_ATTRIBUTES}
-use Rattle.dep_model.specs.Columns.{is_column_type}
-use Rattle.dep_model.specs.Names.{IsName, is_type_text, same_name}
-use Rattle.dep_model.specs.declared.column_type.ColumnType.{ColumnType}
-use Rattle.dep_model.specs.declared.column_type.ColumnType.TheVariants as type
-use Rattle.dep_model.specs.declared.schema.TheConstants.{MOST_DEPENDENCIES}
+use Rattle.schema_model.specs.Columns.{is_column_type}
+use Rattle.schema_model.specs.Names.{IsName, is_type_text, same_name}
+use Rattle.schema_model.specs.declared.column_type.ColumnType.{ColumnType}
+use Rattle.schema_model.specs.declared.column_type.ColumnType.TheVariants as type
+use Rattle.dep_model.specs.declared.theory.TheConstants.{MOST_DEPENDENCIES}
 use Rattle.lexer.proofs.Quoting.{name_test}
 use Rattle.lexer.specs.Quotes as quotes
 use Rattle.sql_lexemes.specs.declared.dialect.Dialect.{Dialect}

@@ -5,7 +5,7 @@ use Rattle.std.proofs.lemmas.Bool.Decides.{nat_tests}
 use Rattle.std.proofs.lemmas.List.Elements.{All-append, All-head, All-nil, All-tail}
 use Rattle.std.proofs.lemmas.Option.{slice_get-get_or}
 use Rattle.attr_sets.specs.Attributes.{Attributes, IsSubset, below, none, only, union}
-use Rattle.dep_model.specs.Names.{same_name}
+use Rattle.schema_model.specs.Names.{same_name}
 use Rattle.sql_definitions.specs.declared.refusal.Refusal.{Refusal}
 use Rattle.sql_definitions.specs.Facts.{Facts, StatedColumn, StatedKey, StatedPart}
 use Rattle.sql_schemas.specs.Keys.{KeyColumns, and_then, column_named, column_of_part, columns_of_parts, is_new, key_of, keys_after, keys_of, new_keys, with_part}

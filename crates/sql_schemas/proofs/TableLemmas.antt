@@ -9,16 +9,16 @@ use Rattle.std.proofs.lemmas.List.{get_or-map, length-map}
 use Rattle.std.proofs.lemmas.List.Elements.{All-map}
 use Rattle.std.proofs.lemmas.Option.{slice_get_past}
 use Rattle.attr_sets.specs.Attributes.{Attributes, IsSubset, below}
-use Rattle.dep_model.specs.Columns.{is_column_type}
-use Rattle.dep_model.specs.Names.{same_name}
-use Rattle.dep_model.specs.Validity.{AreDeclared, IsSchema}
-use Rattle.dep_model.specs.declared.column_type.ColumnType.{ColumnType}
+use Rattle.schema_model.specs.Columns.{is_column_type}
+use Rattle.schema_model.specs.Names.{same_name}
+use Rattle.schema_model.specs.Validity.{AreDeclared, IsSchema}
+use Rattle.schema_model.specs.declared.column_type.ColumnType.{ColumnType}
 use Rattle.dep_model.specs.declared.dep.Dep.{Dep}
-use Rattle.dep_model.specs.declared.naming.Naming.TheVariants.{Any, Bare}
+use Rattle.schema_model.specs.declared.naming.Naming.TheVariants.{Any, Bare}
 use Rattle.dep_model.specs.Deps.{dependencies_of}
-use Rattle.dep_model.specs.Schemas.{deps_of, names_of, naming_of, nullable_of, types_of, width_of}
-use Rattle.dep_model.specs.declared.naming.Naming.{Naming}
-use Rattle.dep_model.specs.declared.schema.Schema.{Schema}
+use Rattle.schema_model.specs.Schemas.{deps_of, names_of, naming_of, nullable_of, types_of, width_of}
+use Rattle.schema_model.specs.declared.naming.Naming.{Naming}
+use Rattle.schema_model.specs.Schemas.{Schema}
 use Rattle.schema_printer.specs.Printing.{lines_text, schema_lines, schema_text}
 use Rattle.schema_printer.specs.Spelling.{printed_names_of, spelling}
 use Rattle.sql_definitions.specs.Facts.{AreColumns, StatedColumn}

@@ -5,7 +5,7 @@ use Rattle.std.specs.List.{list_any}
 use Rattle.attr_sets.specs.Attributes.{Attributes, below, difference, none, only, union}
 use Rattle.attr_sets.specs.Sets.{is_disjoint, is_same, is_subset}
 use Rattle.dep_model.specs.Dependencies.{Dependency, fd}
-use Rattle.dep_model.specs.Names.{same_name}
+use Rattle.schema_model.specs.Names.{same_name}
 use Rattle.sql_definitions.specs.declared.definition.KeyKind.{KeyKind}
 use Rattle.sql_definitions.specs.declared.definition.KeyKind.TheVariants.{Primary, UniqueMissing}
 use Rattle.sql_definitions.specs.declared.refusal.Reason.TheVariants as reason

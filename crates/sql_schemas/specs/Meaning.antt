@@ -1,6 +1,6 @@
 -- What the text of the schema of a table declares: for the laws.
 use Rattle.std.specs.Prelude.{◌≡◌, ℕ, Some, Ok, List, [], length, map, filter, slice_get}
-use Rattle.dep_model.specs.declared.naming.Naming.TheVariants.{Any}
+use Rattle.schema_model.specs.declared.naming.Naming.TheVariants.{Any}
 use Rattle.schema_grammar.specs.Declarations.{Declarations}
 use Rattle.sql_definitions.specs.Facts.{Facts, StatedColumn, StatedKey}
 use Rattle.sql_schemas.specs.Keys.{KeyColumns, is_dependency, key_dependency, key_of, new_keys}

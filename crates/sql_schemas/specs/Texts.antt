@@ -2,10 +2,10 @@
 use Rattle.std.specs.Prelude.{◌≡◌, ℕ, Bool, false, ◌&&◌, not, Option, Some, None, Result, Ok, List, [], ◌++◌, length, map, codes, slice_get, if◌then◌else◌}
 use Rattle.std.specs.List.{list_any}
 use Rattle.attr_sets.specs.Attributes.{Attributes}
-use Rattle.dep_model.specs.Schemas.{naming_of, names_of, types_of, nullable_of, deps_of}
-use Rattle.dep_model.specs.declared.column_type.ColumnType.{ColumnType}
-use Rattle.dep_model.specs.declared.schema.Schema.{Schema}
-use Rattle.dep_model.specs.declared.naming.Naming.TheVariants.{Any}
+use Rattle.schema_model.specs.Schemas.{naming_of, names_of, types_of, nullable_of, deps_of}
+use Rattle.schema_model.specs.declared.column_type.ColumnType.{ColumnType}
+use Rattle.schema_model.specs.Schemas.{Schema}
+use Rattle.schema_model.specs.declared.naming.Naming.TheVariants.{Any}
 use Rattle.schema_printer.specs.Printing.{dependency_text, lines_text, schema_lines, set_text}
 use Rattle.schema_printer.specs.Spelling.{spelling}
 use Rattle.sql_lexemes.specs.declared.dialect.Dialect.{Dialect}

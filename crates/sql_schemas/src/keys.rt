@@ -10,7 +10,8 @@ ghost use Rattle.sql_schemas.specs.KeyValues.{key_columns};
 ghost use Rattle.sql_schemas.specs.Keys.{column_named, column_of_part, columns_of_parts, compares_missing, is_dependency, is_new, is_primary, key_of, keys_of, new_keys, says_so};
 
 use attr_sets::AttrSet;
-use dep_model::{Failure, Name, OutOfMemory};
+use dep_model::{Failure, OutOfMemory};
+use schema_model::Name;
 use sql_definitions::{Column, Definition, Key, KeyKind, Part, Reason, Refusal};
 use std::alloc::Global;
 

@@ -2,9 +2,9 @@
 
 ghost use Rattle.std.specs.Prelude.{◌≡◌, ◌<◌, ◌++◌, ◌∷◌, [], length, map, IfErr, IfOk, Ok, OnOk};
 ghost use Rattle.dep_model.specs.Deps.{dependency_of};
-ghost use Rattle.dep_model.specs.Schemas.{naming_of, names_of, types_of, nullable_of, deps_of};
-ghost use Rattle.dep_model.specs.declared.naming.Naming.TheVariants.{Any};
-ghost use Rattle.dep_model.specs.declared.schema.Schema.{Schema};
+ghost use Rattle.schema_model.specs.Schemas.{naming_of, names_of, types_of, nullable_of, deps_of};
+ghost use Rattle.schema_model.specs.declared.naming.Naming.TheVariants.{Any};
+ghost use Rattle.schema_model.specs.Schemas.{Schema};
 ghost use Rattle.schema_printer.specs.Printing.{lines_text};
 ghost use Rattle.schema_printer.specs.Spelling.{printed_names_of};
 ghost use Rattle.sql_definitions.specs.Facts.{AreColumns, Fails};
@@ -16,7 +16,8 @@ use crate::keys::{TableKey, is_dependency, is_primary, keys_of, new_keys};
 use crate::missing::columns_missing;
 use attr_sets::AttrSet;
 use byte_texts::add;
-use dep_model::{ColumnType, Dep, Failure, Name, Naming, OutOfMemory, Schema};
+use dep_model::{Dep, Failure, OutOfMemory};
+use schema_model::{ColumnType, Name, Naming, Schema};
 use schema_printer::{add_dep, add_set, print_deps};
 use sql_definitions::{Column, Definition, Refusal};
 use std::alloc::Global;

@@ -8,7 +8,7 @@ use Rattle.dep_model.specs.Projections.{members_below}
 use Rattle.dep_model.proofs.SchemeLemmas.{members_below-member, members_below-outside}
 use Rattle.sql_syntax.specs.Names.{separator, comma_list, is_not_empty}
 use Rattle.sql_syntax.proofs.ListLemmas.{comma_list-push, not_empty_pushed}
-use Rattle.dep_model.specs.declared.schema.Schema.{Schema}
+use Rattle.schema_model.specs.Schemas.{Schema}
 use Rattle.sql_syntax.specs.Printing.{condition_text}
 use Rattle.sql_check.specs.Checks.{some_missing}
 use Rattle.sql_scripts.specs.Listing.{missing_test, missing_tests}

@@ -6,8 +6,8 @@ use Rattle.std.proofs.lemmas.List.{take_more}
 use Rattle.attr_sets.specs.Attributes.{Attributes, union, intersection, IsEmpty}
 use Rattle.attr_sets.specs.Sets.{attributes}
 use Rattle.attr_sets.specs.declared.set.AttrSet.{AttrSet}
-use Rattle.dep_model.specs.declared.schema.Schema.{Schema}
-use Rattle.dep_model.specs.Schemas.{universe_of}
+use Rattle.schema_model.specs.Schemas.{Schema}
+use Rattle.schema_model.specs.Schemas.{universe_of}
 use Rattle.ddl_text.proofs.TextLemmas.{empty_passes, empty_fails}
 use Rattle.sql_syntax.specs.Names.{quoted_name}
 use Rattle.sql_syntax.specs.Syntax.{by_columns, crosswise}

@@ -12,9 +12,9 @@ use Rattle.dep_model.proofs.SchemeLemmas.{members_below-none, members_below-outs
 use Rattle.sql_syntax.specs.Names.{separator, comma_list, is_not_empty}
 use Rattle.sql_syntax.specs.Syntax.{Column, column, Item, own, named}
 use Rattle.sql_syntax.specs.Printing.{column_text, item_text, group_text, query_text, selected_text}
-use Rattle.dep_model.specs.declared.naming.Naming.{Naming}
-use Rattle.dep_model.specs.declared.schema.Schema.{Schema}
-use Rattle.dep_model.specs.Schemas.{width_of, universe_of}
+use Rattle.schema_model.specs.declared.naming.Naming.{Naming}
+use Rattle.schema_model.specs.Schemas.{Schema}
+use Rattle.schema_model.specs.Schemas.{width_of, universe_of}
 use Rattle.schema_printer.specs.Spelling.{spelling}
 use Rattle.std.proofs.lemmas.List.FromFn.{map-range_with_len_more}
 use Rattle.std.proofs.lemmas.List.{map-id}
@@ -134,11 +134,6 @@ pub count_printed : (line : ℕ) → decimal line ++ codes " AS line, " ++ codes
 count_printed line = after_line_printed line (own count_column ∷ []) refl
 
 -- ---- values
-pub range_more : (n : ℕ) → range_with_len 0 (n + 1) ≡ range_with_len 0 n ++ n ∷ []
-range_more n =
-    sym (map-id (range_with_len 0 (n + 1))) ∙ map-range_with_len_more (λ (k : ℕ). k) 0 n n (omega arith)
-    ∙ ap (λ (ks : List ℕ). ks ++ n ∷ []) (map-id (range_with_len 0 n))
-
 pub integer_line : (naming : Naming) (table name comment query : List ℕ)
     → comment ≡ codes "-- " ++ spelling naming name ++ codes " is an integer\n"
     → query ≡ query_text (integer_query table (named_column (codes "r") name))

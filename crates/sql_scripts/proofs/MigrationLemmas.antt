@@ -4,7 +4,7 @@ use Rattle.std.proofs.lemmas.Grind.{flat_map-append}
 use Rattle.std.proofs.lemmas.List.Folds.{flat_map-map}
 use Rattle.std.specs.List.{flat_map}
 use Rattle.std.specs.Prelude.{codes}
-use Rattle.dep_model.specs.declared.schema.Schema.{Schema}
+use Rattle.schema_model.specs.Schemas.{Schema}
 use Rattle.ddl_text.specs.Ddl.{ddl_text}
 use Rattle.ddl_text.specs.Designs.{ReferToEarlier}
 use Rattle.ddl_text.specs.declared.table.TableDesign.{TableDesign}

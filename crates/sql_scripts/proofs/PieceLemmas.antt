@@ -3,9 +3,9 @@ use Rattle.std.proofs.Common.{◌≡◌, ℕ, Bool, true, false, ◌||◌, Some,
 use Rattle.std.specs.Prelude.{if◌then◌else◌, codes, option_and_then}
 use Rattle.attr_sets.specs.Attributes.{Attributes, below, union, difference}
 use Rattle.attr_sets.specs.Sets.{is_subset}
-use Rattle.dep_model.specs.declared.schema.Schema.{Schema}
+use Rattle.schema_model.specs.Schemas.{Schema}
 use Rattle.dep_model.specs.Dependencies.{fd, mvd}
-use Rattle.dep_model.specs.Schemas.{width_of}
+use Rattle.schema_model.specs.Schemas.{width_of}
 use Rattle.sql_syntax.specs.Printing.{query_text}
 use Rattle.relation_queries.specs.Queries.{several, unpaired}
 use Rattle.relation_queries.specs.Queries as terms

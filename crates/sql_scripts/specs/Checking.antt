@@ -3,11 +3,11 @@
 use Rattle.std.specs.Prelude.{ℕ, if◌then◌else◌, Option, Some, None, List, [], ◌∷◌, ◌++◌, codes, All, MatchOption, ⊤}
 use Rattle.std.specs.Fmt.{decimal}
 use Rattle.std.specs.List.{flat_map, range_with_len}
-use Rattle.dep_model.specs.declared.naming.Naming.{Naming}
-use Rattle.dep_model.specs.declared.schema.Schema.{Schema}
+use Rattle.schema_model.specs.declared.naming.Naming.{Naming}
+use Rattle.schema_model.specs.Schemas.{Schema}
 use Rattle.dep_model.specs.Dependencies.{Dependency}
 use Rattle.dep_model.specs.Projections.{members_below}
-use Rattle.dep_model.specs.Schemas.{width_of, naming_of, theory_of}
+use Rattle.schema_model.specs.Schemas.{width_of, naming_of, theory_of}
 use Rattle.dep_model.specs.Tuples.{Relation}
 use Rattle.schema_printer.specs.Printing.{dependency_text, is_integer}
 use Rattle.schema_printer.specs.Spelling.{spelling, printed_names_of}

@@ -2,10 +2,10 @@
 use Rattle.std.specs.List.{flat_map}
 use Rattle.std.specs.Prelude.{ℕ, Bool, ◌+◌, List, [], ◌∷◌, ◌++◌, map, codes}
 use Rattle.attr_sets.specs.Attributes.{Attributes, count_below}
-use Rattle.dep_model.specs.declared.schema.Schema.{Schema}
-use Rattle.dep_model.specs.Columns.{is_plain_type}
+use Rattle.schema_model.specs.Schemas.{Schema}
+use Rattle.schema_model.specs.Columns.{is_plain_type}
 use Rattle.dep_model.specs.Projections.{members_below}
-use Rattle.dep_model.specs.Schemas.{width_of}
+use Rattle.schema_model.specs.Schemas.{width_of}
 use Rattle.sql_syntax.specs.Printing.{condition_text, item_text}
 use Rattle.sql_syntax.specs.Syntax.{is_missing, attribute, column, Item, own, named}
 use Rattle.sql_check.specs.Columns.{name_at, type_at, compared, named_column, column_at, numbered_name, numbered_group}

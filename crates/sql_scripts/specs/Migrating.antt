@@ -2,9 +2,9 @@
 -- migrate` (`desk_scripts/Scripts`).
 use Rattle.std.specs.Prelude.{◌↔◌, ℕ, List, ◌++◌, map, codes, Contains}
 use Rattle.attr_sets.specs.Sets.{attributes}
-use Rattle.dep_model.specs.declared.schema.Schema.{Schema}
+use Rattle.schema_model.specs.Schemas.{Schema}
 use Rattle.dep_model.specs.Projections.{ordered_projection, IsLossless}
-use Rattle.dep_model.specs.Schemas.{width_of, theory_of, LegalFor}
+use Rattle.schema_model.specs.Schemas.{width_of, theory_of, LegalFor}
 use Rattle.dep_model.specs.Tuples.{Tuple, Relation}
 use Rattle.ddl_text.specs.declared.table.TableDesign.{TableDesign}
 use Rattle.sql_syntax.specs.Printing.{item_text, query_text}

@@ -2,7 +2,7 @@
 use Rattle.std.specs.Prelude.{ℕ, Bool, false, ◌&&◌, ◌||◌, ◌==◌, not, nat_lt, nat_le, Option, Some, None, unwrap_or, List, [], ◌∷◌, length, codes, slice_index}
 use Rattle.std.specs.Char.{is_ascii_alphabetic}
 use Rattle.std.specs.List.{find, join_by, list_all}
-use Rattle.dep_model.specs.Names.{is_name_byte, quoted}
+use Rattle.schema_model.specs.Names.{is_name_byte, quoted}
 use Rattle.table_names.specs.TableNames.{GivenNames, is_given, is_taken}
 use Rattle.table_words.specs.Parts.{Part, table_parts}
 use Rattle.sql_scripts.specs.declared.naming.TheConstants.{MOST_PART_BYTES}

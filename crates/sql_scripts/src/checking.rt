@@ -1,5 +1,5 @@
 ghost use Rattle.std.specs.Prelude.{◌≡◌, ◌↔◌, ◌++◌, ℕ, List, IsTrue, IfOk, OnOk};
-ghost use Rattle.dep_model.specs.Schemas.{width_of, LegalFor};
+ghost use Rattle.schema_model.specs.Schemas.{width_of, LegalFor};
 ghost use Rattle.dep_model.specs.Tuples.{Relation, IsOver};
 ghost use Rattle.sql_evaluation.specs.Cells.{Cell};
 ghost use Rattle.sql_evaluation.specs.Evaluation.{Engine};
@@ -13,7 +13,8 @@ use crate::missing::missing_text;
 use crate::naming::quote_table;
 use crate::rules::rule_text;
 use byte_texts::add;
-use dep_model::{OutOfMemory, Schema};
+use dep_model::OutOfMemory;
+use schema_model::Schema;
 use std::alloc::Global;
 
 /// A script that asks a table for the rows in which a value is missing that may not be, for what is no integer

@@ -1,7 +1,7 @@
 ghost use Rattle.std.specs.Prelude.{◌≡◌, ◌<◌, ◌++◌, codes, IfOk};
 ghost use Rattle.attr_sets.specs.Sets.{attributes};
 ghost use Rattle.dep_model.specs.Projections.{members_below};
-ghost use Rattle.dep_model.specs.Schemas.{width_of};
+ghost use Rattle.schema_model.specs.Schemas.{width_of};
 ghost use Rattle.sql_syntax.specs.Names.{comma_list, name_list, quoted_name};
 ghost use Rattle.sql_syntax.specs.Printing.{item_text, names_text};
 ghost use Rattle.sql_migrate.specs.Moving.{attribute_names, moved, moved_at, moved_on};
@@ -11,7 +11,8 @@ use crate::integers::is_integer;
 use crate::listing::{by_text, column_text};
 use attr_sets::AttrSet;
 use byte_texts::add;
-use dep_model::{Name, OutOfMemory, Schema};
+use dep_model::OutOfMemory;
+use schema_model::{Name, Schema};
 use sql_migrate::Move;
 use sql_syntax::{add_listed, add_name_list, add_quoted};
 use std::alloc::Global;

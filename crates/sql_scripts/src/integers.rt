@@ -1,6 +1,6 @@
 ghost use Rattle.std.specs.Prelude.{◌≡◌, ◌++◌, ◌<◌, codes, IfOk, OnOk};
 ghost use Rattle.std.specs.List.{flat_map, range_with_len};
-ghost use Rattle.dep_model.specs.Schemas.{width_of};
+ghost use Rattle.schema_model.specs.Schemas.{width_of};
 ghost use Rattle.schema_printer.specs.Printing.{is_integer};
 ghost use Rattle.schema_printer.specs.Spelling.{spelling};
 ghost use Rattle.sql_syntax.specs.Printing.{query_text};
@@ -12,7 +12,8 @@ ghost use Rattle.sql_scripts.specs.Checking.{integer_check_text, value_text};
 use crate::listing::column_text;
 use crate::selecting::{line_of_query, selected_text};
 use byte_texts::add;
-use dep_model::{ColumnType, Name, Naming, OutOfMemory, Schema};
+use dep_model::OutOfMemory;
+use schema_model::{ColumnType, Name, Naming, Schema};
 use schema_printer::add_name;
 use std::alloc::Global;
 

@@ -1,7 +1,7 @@
 ghost use Rattle.std.specs.Prelude.{◌≡◌, ◌++◌, codes, IfOk};
 ghost use Rattle.std.specs.List.{flat_map};
 ghost use Rattle.attr_sets.specs.Sets.{attributes};
-ghost use Rattle.dep_model.specs.Schemas.{universe_of};
+ghost use Rattle.schema_model.specs.Schemas.{universe_of};
 ghost use Rattle.sql_syntax.specs.Names.{quoted_name};
 ghost use Rattle.sql_syntax.specs.Printing.{joined_text, link_text, names_text, query_text};
 ghost use Rattle.sql_migrate.specs.Moving.{attribute_names};
@@ -12,7 +12,8 @@ use crate::ordering::view_order;
 use attr_sets::AttrSet;
 use byte_texts::add;
 use ddl_text::TableDesign;
-use dep_model::{OutOfMemory, Schema};
+use dep_model::OutOfMemory;
+use schema_model::Schema;
 use sql_migrate::JoinedTable;
 use std::alloc::Global;
 

@@ -2,9 +2,9 @@ ghost use Rattle.std.specs.Prelude.{◌≡◌, ◌++◌, ◌<◌, codes, IfOk};
 ghost use Rattle.std.specs.Fmt.{decimal};
 ghost use Rattle.attr_sets.specs.Attributes.{below};
 ghost use Rattle.attr_sets.specs.Sets.{attributes};
-ghost use Rattle.dep_model.specs.Columns.{is_plain_type};
+ghost use Rattle.schema_model.specs.Columns.{is_plain_type};
 ghost use Rattle.dep_model.specs.Projections.{members_below};
-ghost use Rattle.dep_model.specs.Schemas.{width_of};
+ghost use Rattle.schema_model.specs.Schemas.{width_of};
 ghost use Rattle.sql_syntax.specs.Names.{comma_list, quoted_name};
 ghost use Rattle.sql_syntax.specs.Printing.{item_text};
 ghost use Rattle.sql_check.specs.Checks.{has_members};
@@ -12,7 +12,8 @@ ghost use Rattle.sql_scripts.specs.Listing.{item_with, item_of, items_of, item_t
 
 use attr_sets::AttrSet;
 use byte_texts::{add, add_number};
-use dep_model::{ColumnType, Name, OutOfMemory, Schema};
+use dep_model::OutOfMemory;
+use schema_model::{ColumnType, Name, Schema};
 use sql_syntax::{add_listed, add_quoted};
 use std::alloc::Global;
 

@@ -1,7 +1,7 @@
 ghost use Rattle.std.specs.Prelude.{◌≡◌, ◌++◌, ℕ, List, IsTrue, codes, length, replicate, IfOk, OnOk};
 ghost use Rattle.std.specs.List.{flat_map};
 ghost use Rattle.attr_sets.specs.Sets.{attributes};
-ghost use Rattle.dep_model.specs.Schemas.{width_of};
+ghost use Rattle.schema_model.specs.Schemas.{width_of};
 ghost use Rattle.dep_model.specs.Tuples.{Relation};
 ghost use Rattle.sql_syntax.specs.Names.{comma_list};
 ghost use Rattle.sql_syntax.specs.Syntax.{missing_value};
@@ -24,7 +24,8 @@ use crate::selecting::selected_text;
 use attr_sets::AttrSet;
 use byte_texts::add;
 use ddl_text::{DesignList, TableDesign, print_ddl};
-use dep_model::{OutOfMemory, Schema};
+use dep_model::OutOfMemory;
+use schema_model::Schema;
 use sql_migrate::Move;
 use sql_syntax::add_listed;
 use std::alloc::Global;

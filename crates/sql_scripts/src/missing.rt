@@ -1,7 +1,7 @@
 ghost use Rattle.std.specs.Prelude.{◌≡◌, ◌++◌, ◌<◌, false, if◌then◌else◌, codes, IfOk, OnOk};
 ghost use Rattle.attr_sets.specs.Sets.{attributes};
 ghost use Rattle.dep_model.specs.Projections.{members_below};
-ghost use Rattle.dep_model.specs.Schemas.{width_of, universe_of};
+ghost use Rattle.schema_model.specs.Schemas.{width_of, universe_of};
 ghost use Rattle.sql_syntax.specs.Names.{comma_list, quoted_name};
 ghost use Rattle.sql_syntax.specs.Printing.{selected_text, item_text};
 ghost use Rattle.sql_check.specs.Columns.{items_on};
@@ -13,7 +13,8 @@ use crate::listing::{Listed, column_text, has_members, items_text};
 use crate::selecting::{line_of_query, selected_text};
 use attr_sets::AttrSet;
 use byte_texts::add;
-use dep_model::{Name, OutOfMemory, Schema};
+use dep_model::OutOfMemory;
+use schema_model::{Name, Schema};
 use std::alloc::Global;
 
 // The query for the rows in which a value is missing, where one may not be.

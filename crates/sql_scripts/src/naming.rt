@@ -1,15 +1,16 @@
 ghost use Rattle.std.specs.Prelude.{◌≡◌, [], ◌∷◌, ◌++◌, ◌||◌, ◌==◌, codes, None, unwrap_or, IfOk, OnOk};
 ghost use Rattle.std.specs.List.{find, list_all};
 ghost use Rattle.std.specs.Char.{is_ascii_alphabetic};
-ghost use Rattle.dep_model.specs.Names.{is_name_byte, quoted};
+ghost use Rattle.schema_model.specs.Names.{is_name_byte, quoted};
 ghost use Rattle.lexer.specs.Tokens.{bytes_in};
 ghost use Rattle.table_names.specs.TableNames.{is_given};
 ghost use Rattle.table_words.specs.Parts.{part_of, parts_of};
 ghost use Rattle.sql_scripts.specs.Naming.{are_parts, dotted_name, is_bare_part, is_part, is_table_name, last_name, last_of, met_name, quoted_table};
 
 use byte_texts::add;
-use dep_model::{Name, OutOfMemory};
+use dep_model::OutOfMemory;
 use lexer::WordBytes;
+use schema_model::Name;
 use schema_printer::add_quoted;
 use std::alloc::Global;
 use table_names::is_taken;

@@ -1,9 +1,9 @@
-ghost use Rattle.std.specs.Prelude.{◌≡◌, ◌<◌, length, reverse, [], ◌∷◌, get_or, IfOk};
+ghost use Rattle.std.specs.Prelude.{◌≡◌, ◌<◌, length, reverse, not, [], ◌∷◌, get_or, IfOk};
 ghost use Rattle.std.specs.List.{remove};
 ghost use Rattle.attr_sets.specs.Attributes.{none};
-ghost use Rattle.attr_sets.specs.Sets.{attributes};
-ghost use Rattle.sql_migrate.specs.ViewOrder.{share, put_first, joined_next, view_order};
-ghost use Rattle.sql_migrate.specs.Script.{joined_tables};
+ghost use Rattle.attr_sets.specs.Sets.{attributes, is_disjoint};
+ghost use Rattle.dep_model.specs.JoinOrders.{put_first, joined_next};
+ghost use Rattle.sql_migrate.specs.Script.{joined_tables, scheme_of_joined, view_order};
 ghost use Rattle.sql_migrate.specs.declared.joining.JoinedTable.{JoinedTable};
 
 use attr_sets::AttrSet;
@@ -40,7 +40,7 @@ fn reversed(alloc: Global, designs: &[TableDesign]) -> Result<Vec<JoinedTable>, 
 // The tables, each time the first of those left that shares an attribute with those before it.
 fn joined_next(alloc: Global, tables: Vec<JoinedTable>) -> Result<Vec<JoinedTable>, OutOfMemory>
     ensures order { IfOk result
-        (λ order. order.items ≡ joined_next (length tables.items) none tables.items) }
+        (λ order. order.items ≡ joined_next scheme_of_joined (length tables.items) none tables.items) }
 {
     let mut left = tables;
     let mut seen = AttrSet::empty();
@@ -57,20 +57,13 @@ fn joined_next(alloc: Global, tables: Vec<JoinedTable>) -> Result<Vec<JoinedTabl
 fn first_sharing(tables: &[JoinedTable], seen: AttrSet) -> usize
     requires not_empty { 0 < length tables.now }
     ensures first { (table : JoinedTable) → get_or tables.now result table ∷ remove tables.now result
-        ≡ put_first (λ t. share (attributes seen) (attributes t.scheme)) [] tables.now }
+        ≡ put_first (λ t. not (is_disjoint (attributes seen) (attributes t.scheme))) [] tables.now }
     ensures within { result < length tables.now }
 {
     for i in 0..tables.len() {
-        if shares(seen, tables[i].scheme) {
+        if seen.intersects(tables[i].scheme) {
             return i;
         }
     }
     0
-}
-
-// Whether two sets share an attribute.
-fn shares(set: AttrSet, other: AttrSet) -> bool
-    ensures shares { result ≡ share (attributes set) (attributes other) }
-{
-    !set.intersection(other).is_empty()
 }

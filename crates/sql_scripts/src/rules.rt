@@ -10,7 +10,8 @@ use crate::several::several_text;
 use crate::unpaired::unpaired_text;
 use attr_sets::AttrSet;
 use byte_texts::{add, add_number};
-use dep_model::{Dep, OutOfMemory, Schema};
+use dep_model::{Dep, OutOfMemory};
+use schema_model::Schema;
 use schema_printer::add_dep;
 use std::alloc::Global;
 

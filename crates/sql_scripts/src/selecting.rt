@@ -8,7 +8,8 @@ ghost use Rattle.sql_check.specs.Checks.{values_query};
 use crate::listing::{Listed, has_members, items_text};
 use attr_sets::AttrSet;
 use byte_texts::{add, add_number};
-use dep_model::{OutOfMemory, Schema};
+use dep_model::OutOfMemory;
+use schema_model::Schema;
 use std::alloc::Global;
 
 // What is selected from what.

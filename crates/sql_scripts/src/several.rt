@@ -8,7 +8,8 @@ ghost use Rattle.sql_check.specs.Checks.{line_item, several_query, has_members};
 use crate::listing::{Listed, has_members, items_text};
 use crate::selecting::{after_line, counted_text, grouped_text, selected_text, values_source};
 use attr_sets::AttrSet;
-use dep_model::{OutOfMemory, Schema};
+use dep_model::OutOfMemory;
+use schema_model::Schema;
 use std::alloc::Global;
 
 // The values on the left side beside which more than one on both sides stands.

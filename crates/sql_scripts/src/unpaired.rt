@@ -12,7 +12,8 @@ use crate::selecting::{
 };
 use attr_sets::AttrSet;
 use byte_texts::add;
-use dep_model::{OutOfMemory, Schema};
+use dep_model::OutOfMemory;
+use schema_model::Schema;
 use sql_syntax::add_listed;
 use std::alloc::Global;
 

@@ -4,7 +4,8 @@ ghost use Rattle.sql_syntax.specs.Names.{separator, comma_list, quoted_name, nam
 
 use attr_sets::AttrSet;
 use byte_texts::add;
-use dep_model::{Name, OutOfMemory, Schema};
+use dep_model::OutOfMemory;
+use schema_model::{Name, Schema};
 
 /// Adds the quoted names of a set's attributes, ascending, with a comma and a blank between.
 pub fn add_name_list(text: &mut Vec<u8>, schema: &Schema, set: AttrSet) -> Result<(), OutOfMemory>

@@ -1,7 +1,8 @@
 ghost use Rattle.std.specs.Prelude.{◌≡◌, [], IfOk, All};
+ghost use Rattle.attr_sets.specs.Sets.{attributes};
 ghost use Rattle.dep_model.specs.Deps.{dependencies_of, IsDepWithin};
 ghost use Rattle.dep_model.specs.Plans.{schemes_of};
-ghost use Rattle.dep_model.specs.Schemas.{width_of, theory_of, nullable_of, universe_of};
+ghost use Rattle.dep_model.specs.Theories.{width_of, theory_of, universe_of};
 ghost use Rattle.min_cover.specs.Covers.{IsMinimalCover};
 ghost use Rattle.synthesis_3nf.specs.GroupedPlans.{AreSynthesisSteps};
 ghost use Rattle.synthesis_3nf.specs.Groups.{left_sides_after};
@@ -9,7 +10,7 @@ ghost use Rattle.synthesis_3nf.specs.Groups.{left_sides_after};
 use crate::completing::with_key;
 use crate::grouping::{each_scheme, left_sides};
 use attr_sets::AttrSet;
-use dep_model::{Dep, OutOfMemory, Schema};
+use dep_model::{Dep, OutOfMemory, Theory};
 use min_cover::minimal_cover;
 use std::alloc::Global;
 
@@ -27,19 +28,23 @@ pub struct SynthesisSteps {
 /// gives the scheme of its left side and right sides. Groups are not merged, as Bernstein's (1976) synthesis
 /// merges those whose left sides determine each other. Where no scheme is a superkey of the universe, its
 /// primary key by the functional dependencies is added last.
-pub fn synthesis_steps(alloc: Global, schema: &Schema) -> Result<SynthesisSteps, OutOfMemory>
-    ensures steps { IfOk result (λ steps. AreSynthesisSteps (width_of schema.now) (theory_of schema.now)
-        (nullable_of schema.now) (dependencies_of steps.cover.items) (schemes_of steps.schemes.items)) }
+pub fn synthesis_steps(
+    alloc: Global,
+    theory: &Theory,
+    nullable: AttrSet,
+) -> Result<SynthesisSteps, OutOfMemory>
+    ensures steps { IfOk result (λ steps. AreSynthesisSteps (width_of theory.now) (theory_of theory.now)
+        (attributes nullable) (dependencies_of steps.cover.items) (schemes_of steps.schemes.items)) }
     ensures lefts { IfOk result (λ steps. schemes_of steps.lefts.items
         ≡ left_sides_after [] (dependencies_of steps.cover.items)) }
-    ensures minimal { IfOk result (λ steps. IsMinimalCover (width_of schema.now) (theory_of schema.now)
+    ensures minimal { IfOk result (λ steps. IsMinimalCover (width_of theory.now) (theory_of theory.now)
         (dependencies_of steps.cover.items)) }
-    ensures within { IfOk result (λ steps. All (IsDepWithin (universe_of schema.now)) steps.cover.items) }
+    ensures within { IfOk result (λ steps. All (IsDepWithin (universe_of theory.now)) steps.cover.items) }
 {
-    let cover = minimal_cover(alloc, schema)?;
+    let cover = minimal_cover(alloc, theory)?;
     let lefts = left_sides(alloc, &cover)?;
     let groups = each_scheme(alloc, &cover, &lefts)?;
-    let schemes = with_key(schema, groups)?;
+    let schemes = with_key(theory, nullable, groups)?;
     Ok(SynthesisSteps {
         cover,
         lefts,

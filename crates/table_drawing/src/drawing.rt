@@ -5,7 +5,8 @@ use crate::edges::add_edges;
 use crate::nodes::add_nodes;
 use byte_texts::add;
 use ddl_text::DesignList;
-use dep_model::{OutOfMemory, Schema};
+use dep_model::OutOfMemory;
+use schema_model::Schema;
 use std::alloc::Global;
 
 /// The Graphviz text of a design: a node for each table, named by its number, in order, and then for each table,

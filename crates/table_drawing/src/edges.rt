@@ -7,7 +7,8 @@ use crate::escapes::add_label;
 use crate::nodes::add_id;
 use byte_texts::add;
 use ddl_text::TableDesign;
-use dep_model::{OutOfMemory, Schema};
+use dep_model::OutOfMemory;
+use schema_model::Schema;
 use schema_printer::add_set;
 use std::alloc::Global;
 

@@ -1,15 +1,16 @@
 ghost use Rattle.std.specs.Prelude.{◌≡◌, ◌<◌, ◌++◌, IfOk, OnOk};
 ghost use Rattle.std.specs.List.{flat_map};
 ghost use Rattle.attr_sets.specs.Sets.{attributes};
-ghost use Rattle.dep_model.specs.Schemas.{width_of};
+ghost use Rattle.schema_model.specs.Schemas.{width_of};
 ghost use Rattle.table_names.specs.TableNames.{table_name};
 ghost use Rattle.table_drawing.specs.Drawing.{marked_text, row_text, table_rows_text, node_head, node_text};
 
 use attr_sets::AttrSet;
 use byte_texts::add;
 use ddl_text::TableDesign;
-use dep_model::{OutOfMemory, Schema};
+use dep_model::OutOfMemory;
 use html_pages::add_html;
+use schema_model::Schema;
 use std::alloc::Global;
 use table_names::table_name;
 

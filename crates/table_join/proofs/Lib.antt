@@ -1,8 +1,12 @@
 pub mod ListLemmas
 pub mod ValueLemmas
 pub mod OrderLemmas
-pub mod JoinLemmas
 pub mod MatchLemmas
+pub mod JoinLemmas
+pub mod SizeLemmas
+pub mod FactorLemmas
+pub mod CountLemmas
+pub mod BracketLemmas
 pub mod LentLemmas
 pub mod FoundLemmas
 pub mod PartLemmas

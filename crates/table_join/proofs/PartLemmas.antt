@@ -17,11 +17,11 @@ use Rattle.csv_rows.specs.declared.refusal.RowRefusal.{RowRefusal}
 use Rattle.csv_rows.specs.declared.refusal.RowRefusal.TheVariants as refusal
 use Rattle.dep_model.proofs.ListLemmas.{same_default}
 use Rattle.csv_rows.proofs.ReadingLemmas.{closed_row}
-use Rattle.dep_model.specs.Names.{same_name}
+use Rattle.schema_model.specs.Names.{same_name}
 use Rattle.dep_model.specs.Projections.{members_below}
-use Rattle.dep_model.specs.Schemas.{names_of, width_of, attribute_named}
+use Rattle.schema_model.specs.Schemas.{names_of, width_of, attribute_named}
 use Rattle.dep_model.specs.Tuples.{Relation}
-use Rattle.dep_model.specs.declared.schema.Schema.{Schema}
+use Rattle.schema_model.specs.Schemas.{Schema}
 use Rattle.dep_model.proofs.SchemeLemmas.{length-members_below}
 use Rattle.table_join.specs.Tables.{IsTable}
 use Rattle.attr_sets.proofs.AttributesLemmas.{same_at}

@@ -1,11 +1,12 @@
--- The definitions of table_join, in reading order: tables, their join in an order, the order from the last, what the
--- join answers, and how it is computed.
+-- The definitions of table_join, in reading order: tables, their join in an order, what the join answers, and how it is
+-- computed.
 pub mod Tables
 pub mod Joins
-pub mod Orders
 pub mod Answers
 pub mod Lent
 pub mod Keys
 pub mod Seams
 pub mod Matches
+pub mod Factors
+pub mod Brackets
 pub mod RefusalTexts

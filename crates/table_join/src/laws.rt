@@ -3,7 +3,7 @@
 
 ghost use Rattle.std.specs.Prelude.{◌≡◌, List, IsPermutation};
 ghost use Rattle.table_join.specs.Answers.{tables_from_last};
-ghost use Rattle.table_join.specs.Orders.{from_last};
+ghost use Rattle.dep_model.specs.JoinOrders.{from_last};
 ghost use Rattle.table_join.specs.Tables.{PartialRelation, plan_of_tables};
 
 /// The tables from the last are the tables, each as often, and their schemes alone decide their order.

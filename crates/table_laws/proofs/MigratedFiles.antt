@@ -10,11 +10,11 @@ use Rattle.csv_migrate.specs.Migration.{table_of, tables_from}
 use Rattle.csv_rows.specs.Reading.{PartOf}
 use Rattle.csv_rows.specs.declared.reading.TheConstants.{MOST_ROWS}
 use Rattle.column_values.specs.Values.{FitsColumn, FitsColumns}
-use Rattle.dep_model.specs.Names.{is_bare_name}
+use Rattle.schema_model.specs.Names.{is_bare_name}
 use Rattle.dep_model.specs.Projections.{project_tuple, projection, ordered_projection}
-use Rattle.dep_model.specs.Schemas.{names_of, nullable_of, width_of}
+use Rattle.schema_model.specs.Schemas.{names_of, nullable_of, width_of}
 use Rattle.dep_model.specs.Tuples.{Tuple, Relation, IsOver, same_tuple, distinct_tuples}
-use Rattle.dep_model.specs.declared.schema.Schema.{Schema}
+use Rattle.schema_model.specs.Schemas.{Schema}
 use Rattle.dep_model.proofs.SchemeLemmas.{length-project_tuple, value_in-project_tuple}
 use Rattle.named_tables.specs.Tables.{TableValue}
 use Rattle.table_laws.proofs.PartFiles.{FitsItsColumns, part_back}

@@ -22,14 +22,14 @@ use Rattle.csv_rows.proofs.PrintedRows.{own_column, other_name, printed_closed, 
 use Rattle.dep_model.proofs.SchemeLemmas.{member_at}
 use Rattle.csv_text.specs.Rows.{rows_text}
 use Rattle.column_values.specs.Values.{FitsColumn}
-use Rattle.dep_model.specs.Names.{is_bare_name, same_name}
+use Rattle.schema_model.specs.Names.{is_bare_name, same_name}
 use Rattle.dep_model.specs.OnSchemes.{value_in}
 use Rattle.dep_model.specs.Projections.{members_below}
-use Rattle.dep_model.specs.Schemas.{names_of, width_of, attribute_named, types_of, nullable_of}
+use Rattle.schema_model.specs.Schemas.{names_of, width_of, attribute_named, types_of, nullable_of}
 use Rattle.dep_model.specs.Tuples.{Tuple, Relation, IsOver, value_at}
-use Rattle.dep_model.specs.declared.column_type.ColumnType.{ColumnType}
-use Rattle.dep_model.specs.declared.schema.Schema.{Schema}
-use Rattle.dep_model.proofs.NameLemmas.{attribute_named-append}
+use Rattle.schema_model.specs.declared.column_type.ColumnType.{ColumnType}
+use Rattle.schema_model.specs.Schemas.{Schema}
+use Rattle.schema_model.proofs.NameLemmas.{attribute_named-append}
 use Rattle.dep_model.proofs.SchemeLemmas.{length-members_below, members_below-none, members_below-member, members_below-outside, members_below-at, members_below-one_more, members_below-no_more}
 use Rattle.schema_printer.specs.Printing.{members_from}
 use Rattle.schema_printer.proofs.MemberLemmas.{members_each}

@@ -13,8 +13,8 @@ use Rattle.dep_model.specs.Dependencies.{Dependency, fd}
 use Rattle.dep_model.specs.Implication.{Implies}
 use Rattle.dep_model.specs.Keys.{InClosure}
 use Rattle.dep_model.specs.Plans.{IsPlan, schemes_of}
-use Rattle.dep_model.specs.Schemas.{width_of, theory_of, nullable_of}
-use Rattle.dep_model.specs.declared.schema.Schema.{Schema}
+use Rattle.schema_model.specs.Schemas.{width_of, theory_of, nullable_of}
+use Rattle.schema_model.specs.Schemas.{Schema}
 use Rattle.dep_model.proofs.KeyLemmas.{fd_on-to}
 use Rattle.dep_model.proofs.RuleLemmas.{transitivity_obeyed, fd_weaker_obeyed}
 use Rattle.primary_keys.specs.PrimaryKeys.{IsPrimaryKey}

@@ -2,8 +2,8 @@
 -- cite it.
 use Rattle.std.specs.Prelude.{◌≡◌, ◌<◌, ◌⊎◌, ℕ, List, slice_get, Some, Contains}
 use Rattle.attr_sets.specs.Sets.{attributes}
-use Rattle.dep_model.specs.Schemas.{width_of, theory_of}
-use Rattle.dep_model.specs.declared.schema.Schema.{Schema}
+use Rattle.schema_model.specs.Schemas.{width_of, theory_of}
+use Rattle.schema_model.specs.Schemas.{Schema}
 use Rattle.ddl_text.specs.Designs.{RefersTo}
 use Rattle.ddl_text.specs.declared.table.TableDesign.{TableDesign}
 use Rattle.design_order.specs.Order.{DetermineTheSame}

@@ -6,7 +6,7 @@ use Rattle.std.proofs.lemmas.Fmt.{decimal_by_steps, length-decimal-le}
 use Rattle.std.proofs.lemmas.Bool.Decides.{nat_tests}
 use Rattle.std.proofs.lemmas.List.{get_or-take, get_or-replicate, take_all}
 use Rattle.std.proofs.lemmas.List.Folds.{list_all-append}
-use Rattle.dep_model.specs.Names.{is_bare_name, is_name_byte}
+use Rattle.schema_model.specs.Names.{is_bare_name, is_name_byte}
 use Rattle.table_names.specs.TableNames.{table_name}
 
 digit_byte : (d : ℕ) → d < 10 → is_name_byte (48 + d) ≡ true

@@ -3,7 +3,7 @@ use Rattle.std.specs.Prelude.{ℕ, ◌+◌, Bool, false, ◌&&◌, ◌||◌, nat
 use Rattle.std.specs.Char.{is_ascii_digit}
 use Rattle.std.specs.Fmt.{decimal}
 use Rattle.std.specs.List.{list_all}
-use Rattle.dep_model.specs.Names.{same_name}
+use Rattle.schema_model.specs.Names.{same_name}
 
 -- the name of the table of a number: `t` and the number, in decimal
 abbrev pub table_name : ℕ → List ℕ

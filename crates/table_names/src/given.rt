@@ -6,7 +6,7 @@ ghost use Rattle.std.specs.List.{list_all, list_any};
 ghost use Rattle.table_names.specs.TableNames.{is_given, is_numbered, is_taken, name_of_table};
 
 use crate::numbered::{MOST_TABLES, table_name};
-use dep_model::Name;
+use schema_model::Name;
 
 /// The name of the table at a position, from 0: the one that is given to it, or else that of its number.
 pub fn name_of_table(names: &[Option<Name>], k: u32) -> Name

@@ -1,8 +1,8 @@
 ghost use Rattle.std.specs.Prelude.{◌≡◌};
 ghost use Rattle.table_names.specs.TableNames.{table_name};
 
-use dep_model::Name;
 use itoa::write_digits;
+use schema_model::Name;
 
 /// The most tables of a decomposition.
 pub const MOST_TABLES: u32 = 999_999;

@@ -4,7 +4,7 @@ use Rattle.std.proofs.lemmas.Bool.{and_parts, ne_eqb}
 use Rattle.std.proofs.Math.Seq.{take-append_seam, drop-append_seam}
 use Rattle.std.specs.Prelude.{codes, nat_lt, option_map}
 use Rattle.std.specs.List.{flat_map, join_by, list_all, list_any, position_or_len, starts_with}
-use Rattle.dep_model.specs.Names.{quotes_doubled, quoted}
+use Rattle.schema_model.specs.Names.{quotes_doubled, quoted}
 use Rattle.lexer.specs.Quotes.{is_name, undoubled}
 use Rattle.lexer.proofs.Quoting.{is_quote}
 use Rattle.lexer.proofs.QuotedNames.{closing_doubled, undoubled_doubled}

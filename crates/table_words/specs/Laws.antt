@@ -1,7 +1,7 @@
 -- The law that parts are read from what spells them: for the function of `laws.rt`. `Desk` does not cite it.
 use Rattle.std.specs.Prelude.{◌≡◌, ◌≤◌, ◌<◌, ℕ, Bool, true, ◌&&◌, not, nat_lt, nat_eq, Some, List, [], ◌∷◌, length, codes, if◌then◌else◌}
 use Rattle.std.specs.List.{join_by, list_all, list_any, starts_with}
-use Rattle.dep_model.specs.Names.{quoted}
+use Rattle.schema_model.specs.Names.{quoted}
 use Rattle.lexer.specs.Quotes.{is_name}
 use Rattle.table_words.specs.declared.parts.TheConstants.{MOST_PARTS}
 use Rattle.table_words.specs.Parts.{Part, is_dot, table_parts}

@@ -5,8 +5,8 @@ use Rattle.std.proofs.lemmas.List.{length_push, get_or_append_left, get_or_defau
 use Rattle.std.proofs.lemmas.List.Elements.{All-contains, Contains-get_or, Contains-append_left, Contains-append_right, Contains-push, Contains-push_cases, filter_passes}
 use Rattle.std.specs.Prelude.{Contains, All, AllPairs}
 use Rattle.attr_sets.specs.Attributes.{Attributes, union}
-use Rattle.dep_model.specs.declared.schema.Schema.{Schema}
-use Rattle.dep_model.specs.Schemas.{width_of, types_of, theory_of, TypedFor}
+use Rattle.dep_model.specs.Theories.{Theory}
+use Rattle.dep_model.specs.Theories.{width_of, theory_of}
 use Rattle.dep_model.specs.Tuples.{Relation}
 use Rattle.dep_model.specs.Dependencies.{Dependency, mvd, is_fd, functional_part}
 use Rattle.chase_laws.specs.Tableaux.{SymbolRow, Tableau, SameTableau, IsTableauOver, distinguished_row, plan_tableau}
@@ -17,7 +17,7 @@ use Rattle.chase_laws.proofs.TableauLemmas.{Same-refl, Same-sym, Same-trans, con
 use Rattle.chase_laws.proofs.InvariantLemmas.{reached-over, reached-most}
 use Rattle.chase_laws.proofs.RoundLemmas.{closed-same, rounds_unique, rounds_end, no_more, next_exists, functional_leads_end, step_leads_end, reaches_functionally_closed}
 use Rattle.chase_laws.proofs.FunctionalClosingLemmas.{functionally_closed-same}
-use Rattle.chase_laws.proofs.ClosedLemmas.{closed_gaining, closed_exchanged, reached_typed}
+use Rattle.chase_laws.proofs.ClosedLemmas.{closed_gaining, closed_exchanged}
 use Rattle.chase_laws.proofs.EndLemmas.{what_is_left, round_lowers}
 use Rattle.tableau_chase.specs.Groups.{symbol_row_at}
 use Rattle.tableau_chase.specs.Making.{AddsAll, Overflows}
@@ -209,10 +209,6 @@ pub closed_gains : (n : ℕ) (ds : List Dependency) (plan : List Attributes) (t 
 closed_gains n ds plan t texts within_limit reached closed are lacks =
     subst (λ (r : Relation). IsGaining n ds plan r) (sym are.texts)
     (closed_gaining n ds plan are.symbols within_limit (reached.0, step_leads_end n ds reached.0 (plan_tableau n plan) t are.symbols reached.1 are.same) (closed-same n ds t are.symbols are.same closed) (λ h. lacks ((are.same (distinguished_row n)).1 h)))
-
-pub closed_typed : (schema : Schema) (plan : List Attributes) (limit : ℕ) (texts : Relation) → length plan < 2 ^ 32 → IsClosedTableau (width_of schema) (theory_of schema) plan limit texts → TypedFor schema texts
-closed_typed schema plan limit texts within_limit closed =
-    subst (λ (r : Relation). TypedFor schema r) (sym closed.texts) (reached_typed (width_of schema) (types_of schema) (theory_of schema) plan closed.symbols schema.typed.one_each within_limit closed.reached)
 
 -- what is said of the texts of the rows, where the rounds end at a closed tableau
 pub record EndsLossy (n : ℕ) (ds : List Dependency) (plan : List Attributes) (limit : ℕ) (texts : Relation) : Type 0 where

@@ -1,7 +1,7 @@
 ghost use Rattle.std.specs.Prelude.{◌≡◌, ◌≤◌, ◌<◌, ◌^◌, ◌↔◌, length, Contains, Err, IsTrue, IfOk, OnOk};
 ghost use Rattle.dep_model.specs.Dependencies.{functional_part};
 ghost use Rattle.dep_model.specs.Projections.{Covers, IsLossless};
-ghost use Rattle.dep_model.specs.Schemas.{width_of, theory_of, TypedFor};
+ghost use Rattle.dep_model.specs.Theories.{width_of, theory_of};
 ghost use Rattle.chase_laws.specs.Tableaux.{IsTableauOver, distinguished_row};
 ghost use Rattle.chase_laws.specs.Rounds.{RoundsExceed};
 ghost use Rattle.chase_laws.specs.Answers.{IsClosedTableau, IsGaining};
@@ -15,37 +15,36 @@ use crate::outcome::{ChaseRefusal, Chased};
 use crate::symbol_row::SymbolRow;
 use crate::texts::ascending_texts;
 use attr_sets::AttrSet;
-use dep_model::{Failure, Schema};
+use dep_model::{Failure, Theory};
 use std::alloc::Global;
 
 /// Whether a plan is lossless, by the chase of its tableau; no tableau of the rounds may have more than
 /// `limit` rows.
 pub fn chase(
     alloc: Global,
-    schema: &Schema,
+    theory: &Theory,
     schemes: &[AttrSet],
     limit: u32,
 ) -> Result<Chased, Failure<ChaseRefusal>>
     requires fits_u32 { length schemes.now < 2 ^ 32 }
-    requires cover { Covers (width_of schema.now) (schemes_of schemes.now) }
+    requires cover { Covers (width_of theory.now) (schemes_of schemes.now) }
     ensures too_many_rows { result ≡ Err (Failure.Refused ChaseRefusal.TooManyRows)
-        → RoundsExceed (width_of schema.now) (theory_of schema.now) (schemes_of schemes.now) limit }
+        → RoundsExceed (width_of theory.now) (theory_of theory.now) (schemes_of schemes.now) limit }
     ensures within_limit { OnOk result
-        (RoundsExceed (width_of schema.now) (theory_of schema.now) (schemes_of schemes.now) limit → ⊥) }
+        (RoundsExceed (width_of theory.now) (theory_of theory.now) (schemes_of schemes.now) limit → ⊥) }
     ensures lossless { IfOk result
         (λ chased. (chased ≡ Chased.Lossless)
-        ↔ IsLossless (width_of schema.now) (theory_of schema.now) (schemes_of schemes.now)) }
+        ↔ IsLossless (width_of theory.now) (theory_of theory.now) (schemes_of schemes.now)) }
     ensures closed_tableau { IfOk result
-        (IfLossy (IsClosedTableau (width_of schema.now) (theory_of schema.now)
+        (IfLossy (IsClosedTableau (width_of theory.now) (theory_of theory.now)
         (schemes_of schemes.now) limit)) }
     ensures gaining { IfOk result
-        (IfLossy (IsGaining (width_of schema.now) (theory_of schema.now) (schemes_of schemes.now))) }
-    ensures typed { IfOk result (IfLossy (TypedFor schema.now)) }
-    ensures never_too_many { functional_part (theory_of schema.now) ≡ theory_of schema.now
+        (IfLossy (IsGaining (width_of theory.now) (theory_of theory.now) (schemes_of schemes.now))) }
+    ensures never_too_many { functional_part (theory_of theory.now) ≡ theory_of theory.now
         → length schemes.now ≤ limit → result ≡ Err (Failure.Refused ChaseRefusal.TooManyRows) → ⊥ }
 {
-    let width = schema.width();
-    let deps = schema.deps();
+    let width = theory.width();
+    let deps = theory.deps();
     let mut rows = match plan_pool(alloc, schemes, width, limit) {
         Ok(pool) => pool.rows,
         Err(failure) => return Err(failure),

@@ -2,10 +2,11 @@ ghost use Rattle.std.specs.Prelude.{◌≡◌, ◌≤◌, ◌<◌, ◌∷◌, []
 ghost use Rattle.row_store.specs.Rows.{row_at};
 
 use attr_sets::{AttrSet, MOST_ATTRIBUTES};
-use dep_model::{Name, OutOfMemory};
+use dep_model::OutOfMemory;
 use desk_outside::{HeldFile, MemoryFolder, OutsideFault};
 use destinations::{Destination, FileDestination, MemoryDestination, TableFormat};
 use row_store::{FlatValues, Rows};
+use schema_model::Name;
 use std::alloc::Global;
 use std::test::Fail;
 

@@ -3,9 +3,10 @@ ghost use Rattle.dep_model.specs.Tuples.{IsOver};
 ghost use Rattle.named_tables.specs.Choices.{HasRows};
 
 use attr_sets::AttrSet;
-use dep_model::{Name, OutOfMemory, Row, Value};
+use dep_model::{OutOfMemory, Row, Value};
 use named_tables::{ChosenTable, ChosenTables};
 use row_store::Rows;
+use schema_model::Name;
 use std::alloc::Global;
 
 // A row of one value.

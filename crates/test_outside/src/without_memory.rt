@@ -2,11 +2,11 @@ ghost use Rattle.std.specs.Prelude.{◌≡◌, false, None, Err, ⊤};
 ghost use Rattle.desk_outside.specs.declared.failure.OutsideFault.TheVariants.{OutOfMemory};
 
 use attr_sets::AttrSet;
-use dep_model::Name;
 use desk_outside::{HeldFile, OutsideFault};
 use destinations::Destination;
 use named_tables::HeldTable;
 use row_store::Rows;
+use schema_model::Name;
 
 /// A destination that runs out of memory at each call. It does not make known what it holds.
 #[derive(Drop)]

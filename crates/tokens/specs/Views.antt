@@ -1,8 +1,8 @@
 -- What the reader's values stand for, in the words of the grammar: for tokens and the readers
 -- above it. `Desk` does not cite it.
 use Rattle.std.specs.Prelude.{◌≡◌, ◌<◌, ℕ, ◌+◌, true, Some, None, List, [], ◌∷◌, length}
-use Rattle.dep_model.specs.Names.{IsName, is_bare_name}
-use Rattle.dep_model.specs.Schemas.{names_of}
+use Rattle.schema_model.specs.Names.{IsName, is_bare_name}
+use Rattle.schema_model.specs.Schemas.{names_of}
 use Rattle.lexer.specs.declared.token.LexError.{LexError}
 use Rattle.lexer.specs.declared.token.Token.{Token}
 use Rattle.lexer.specs.declared.token.TokenKind.TheVariants as token

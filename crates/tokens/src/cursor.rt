@@ -1,7 +1,7 @@
 ghost use Rattle.std.specs.Prelude.{◌≡◌, ◌+◌, ◌<◌, ◌≤◌, ◌^◌, length, IsTrue, OnOk, IfOk, IfErr, Ok, Err, Some, None};
 ghost use Rattle.attr_sets.specs.Attributes.{below, IsSubset};
 ghost use Rattle.attr_sets.specs.Sets.{attributes};
-ghost use Rattle.dep_model.specs.Names.{IsName, is_bare_name};
+ghost use Rattle.schema_model.specs.Names.{IsName, is_bare_name};
 ghost use Rattle.lexer.specs.Tokens.{lex, bytes_of};
 ghost use Rattle.schema_grammar.specs.Declarations.{mark_of};
 ghost use Rattle.schema_grammar.specs.Refusals.{refusal};

@@ -1,6 +1,6 @@
 ghost use Rattle.std.specs.Prelude.{◌<◌};
 
-use dep_model::Schema;
+use schema_model::Schema;
 
 const SLOTS: usize = 1_024;
 
@@ -12,6 +12,8 @@ pub struct Guide {
 }
 
 impl Guide {
+    /// The guide to the names of a schema. Which guesses it gives is a matter of speed alone: a word that a guess does
+    /// not name is sought among all names.
     pub fn of(schema: &Schema) -> Guide {
         let mut attributes = [0; SLOTS];
         for attribute in 0..schema.width() {

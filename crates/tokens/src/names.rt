@@ -1,6 +1,6 @@
 ghost use Rattle.std.specs.Prelude.{◌≡◌, ◌<◌, ◌≤◌, ◌↔◌, length, IsTrue, IfOk, IfErr, Ok, Err};
 ghost use Rattle.std.specs.Str.{str_to_ascii_lowercase};
-ghost use Rattle.dep_model.specs.Schemas.{names_of, attribute_named};
+ghost use Rattle.schema_model.specs.Schemas.{names_of, attribute_named};
 ghost use Rattle.schema_grammar.specs.Declarations.{mark_of};
 ghost use Rattle.schema_grammar.specs.Rests.{attribute_of_word};
 ghost use Rattle.schema_grammar.specs.Words.{is_reserved, is_reserved_token, look_up};
@@ -10,9 +10,9 @@ ghost use Rattle.tokens.specs.Views.{names_in};
 
 use crate::guide::Guide;
 use attr_sets::MOST_ATTRIBUTES;
-use dep_model::{Name, Schema};
 use lexer::{QuotedName, Token, TokenKind, Word};
 use schema_grammar::{Format, SchemaRefusal, SchemaRefusalKind};
+use schema_model::{Name, Schema};
 use schema_printer::is_schema_word;
 
 /// The names among which a word is looked up.

@@ -11,7 +11,8 @@ use Rattle.std.proofs.lemmas.List.Elements.{All-nil, All-cons, All-map, All-repl
 use Rattle.std.proofs.lemmas.List.Sums.{AllPass-from_list_all}
 use Rattle.attr_sets.specs.Attributes.{Attributes}
 use Rattle.dep_model.specs.TwoTuples.{zero_text, one_text, all_zeros, zeros_on, two_tuples}
-use Rattle.dep_model.proofs.NumeralLemmas.{decimal_zero, decimal_numeral_model, digits_value-next, digits_value-take}
+use Rattle.dep_model.proofs.TwoTupleLemmas.{decimal_zero}
+use Rattle.schema_model.proofs.NumeralLemmas.{decimal_numeral_model, digits_value-next, digits_value-take}
 use Rattle.typed_rows.specs.Typed.{IsNumeral, AreNumerals, HoldsNumerals}
 
 -- the number that the digits of a numeral write is the number

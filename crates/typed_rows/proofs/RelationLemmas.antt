@@ -6,15 +6,15 @@ use Rattle.std.specs.Str.Parse.{digits_value}
 use Rattle.std.proofs.lemmas.List.Elements.{All-head, All-tail, All-map, All-contains, All-weaker}
 use Rattle.std.proofs.lemmas.Option.{slice_get_within}
 use Rattle.attr_sets.specs.Attributes.{Attributes, below, union, difference}
-use Rattle.dep_model.specs.declared.column_type.ColumnType.{ColumnType}
-use Rattle.dep_model.specs.declared.column_type.ColumnType.TheVariants.{Text, Integer, Date, Timestamp, Decimal, Uuid, Other}
-use Rattle.dep_model.specs.declared.schema.Schema.{Schema}
-use Rattle.dep_model.specs.Columns.{is_column_type}
+use Rattle.schema_model.specs.declared.column_type.ColumnType.{ColumnType}
+use Rattle.schema_model.specs.declared.column_type.ColumnType.TheVariants.{Text, Integer, Date, Timestamp, Decimal, Uuid, Other}
+use Rattle.schema_model.specs.Schemas.{Schema}
+use Rattle.schema_model.specs.Columns.{is_column_type}
 use Rattle.dep_model.specs.Tuples.{Tuple, Relation, AgreeOn, IsOver, value_at}
 use Rattle.dep_model.specs.Dependencies.{Dependency, fd, mvd, ObeysFd, ObeysMvd, Obeys}
 use Rattle.dep_model.specs.Implication.{IsLegal}
 use Rattle.dep_model.specs.Projections.{InJoin, projections}
-use Rattle.dep_model.specs.Schemas.{types_of, width_of, nullable_of}
+use Rattle.schema_model.specs.Schemas.{types_of, width_of, nullable_of}
 use Rattle.dep_model.proofs.ListLemmas.{Contains-map, map-member}
 use Rattle.dep_model.proofs.TupleLemmas.{same_tuple-Contains, IsOver-length}
 use Rattle.dep_model.proofs.JoinLemmas.{in_join-to, in_join-from, projected_tuple_agrees, projected-from}

@@ -1,10 +1,10 @@
 -- Relations that the program makes up, as they are shown: for every answer that shows one.
 use Rattle.std.specs.Prelude.{◌≡◌, List, length}
 use Rattle.attr_sets.specs.Attributes.{Attributes}
-use Rattle.dep_model.specs.Schemas.{theory_of, types_of, width_of, LegalFor}
+use Rattle.schema_model.specs.Schemas.{theory_of, types_of, width_of, LegalFor}
 use Rattle.dep_model.specs.Tuples.{Relation, Tuple, AgreeExactly}
 use Rattle.dep_model.specs.TwoTuples.{all_zeros, two_tuples}
-use Rattle.dep_model.specs.declared.schema.Schema.{Schema}
+use Rattle.schema_model.specs.Schemas.{Schema}
 use Rattle.typed_rows.specs.Typed.{typed_relation, typed_tuple}
 
 -- a relation of numbers with values of the columns' types in their place

@@ -3,13 +3,13 @@
 
 ghost use Rattle.std.specs.Prelude.{◌≡◌, ℕ, ◌↔◌, List, length, All, Contains};
 ghost use Rattle.attr_sets.specs.Attributes.{Attributes};
-ghost use Rattle.dep_model.specs.declared.column_type.ColumnType.{ColumnType};
-ghost use Rattle.dep_model.specs.declared.schema.Schema.{Schema};
+ghost use Rattle.schema_model.specs.declared.column_type.ColumnType.{ColumnType};
+ghost use Rattle.schema_model.specs.Schemas.{Schema};
 ghost use Rattle.dep_model.specs.Tuples.{Tuple, Relation, AgreeOn, IsOver};
 ghost use Rattle.dep_model.specs.Dependencies.{Dependency, Obeys};
 ghost use Rattle.dep_model.specs.Implication.{IsLegal};
 ghost use Rattle.dep_model.specs.Projections.{InJoin, projections};
-ghost use Rattle.dep_model.specs.Schemas.{types_of, width_of};
+ghost use Rattle.schema_model.specs.Schemas.{types_of, width_of};
 ghost use Rattle.dep_model.specs.TwoTuples.{two_tuples};
 ghost use Rattle.column_values.specs.Values.{FitsColumns};
 ghost use Rattle.typed_rows.specs.Typed.{typed_tuple, typed_relation, AreNumerals, HoldsNumerals, ShowsNumerals};

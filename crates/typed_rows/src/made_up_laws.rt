@@ -1,6 +1,6 @@
 ghost use Rattle.std.specs.Prelude.{ℕ, ◌<◌, List, length, Contains};
 ghost use Rattle.attr_sets.specs.Attributes.{Attributes};
-ghost use Rattle.dep_model.specs.declared.column_type.ColumnType.{ColumnType};
+ghost use Rattle.schema_model.specs.declared.column_type.ColumnType.{ColumnType};
 ghost use Rattle.dep_model.specs.Tuples.{Relation, IsOver};
 ghost use Rattle.dep_model.specs.Dependencies.{Dependency};
 ghost use Rattle.dep_model.specs.Implication.{IsLegal};

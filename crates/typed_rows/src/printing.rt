@@ -3,7 +3,7 @@ ghost use Rattle.csv.specs.Records.{fields_of};
 ghost use Rattle.csv_text.specs.Rows.{csv_row, rows_text};
 ghost use Rattle.attr_sets.specs.Attributes.{IsSubset};
 ghost use Rattle.attr_sets.specs.Sets.{attributes};
-ghost use Rattle.dep_model.specs.Schemas.{names_of, universe_of, width_of};
+ghost use Rattle.schema_model.specs.Schemas.{names_of, universe_of, width_of};
 ghost use Rattle.dep_model.specs.Tuples.{IsOver};
 ghost use Rattle.typed_rows.specs.Shown.{shown_relation, shown_tuples, shown_zeros};
 ghost use Rattle.typed_rows.specs.Typed.{HoldsNumerals};
@@ -14,8 +14,9 @@ use csv::ByteRecord;
 use csv_rows::print_rows;
 use csv_text::{fields_line, take_values};
 use dep_basis::witness;
-use dep_model::{OutOfMemory, Row, Schema};
+use dep_model::{OutOfMemory, Row};
 use row_store::Rows;
+use schema_model::Schema;
 use std::alloc::Global;
 
 /// The two rows that agree exactly on a set, below the names of the attributes.
@@ -28,7 +29,7 @@ pub fn print_two_rows(
     ensures text { IfOk result (λ text. text.items
         ≡ rows_text (names_of schema.now) (shown_tuples schema.now (attributes agreement))) }
 {
-    print_made_up(alloc, schema, &witness(alloc, schema, agreement)?)
+    print_made_up(alloc, schema, &witness(alloc, &schema.theory(), agreement)?)
 }
 
 /// Rows of numbers with values of the columns' types in their place, below the names of the attributes.
@@ -46,7 +47,7 @@ pub fn print_made_up(alloc: Global, schema: &Schema, rows: &[Row]) -> Result<Vec
 pub fn print_zeros(alloc: Global, schema: &Schema) -> Result<Vec<u8>, OutOfMemory>
     ensures text { IfOk result (λ text. text.items ≡ csv_row (shown_zeros schema.now)) }
 {
-    let pair = witness(alloc, schema, AttrSet::full(schema.width()))?;
+    let pair = witness(alloc, &schema.theory(), AttrSet::full(schema.width()))?;
     let rows = Rows::of(alloc, &typed_rows(alloc, schema, &pair)?)?;
     let mut fields = ByteRecord::new(alloc);
     take_values(&mut fields, &rows, 0)?;

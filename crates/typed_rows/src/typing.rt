@@ -1,13 +1,14 @@
 ghost use Rattle.std.specs.Prelude.{◌≡◌, length, IfOk};
 ghost use Rattle.std.specs.Str.Parse.{digits_value};
 ghost use Rattle.dep_model.specs.Tuples.{IsOver};
-ghost use Rattle.dep_model.specs.Schemas.{types_of, width_of};
+ghost use Rattle.schema_model.specs.Schemas.{types_of, width_of};
 ghost use Rattle.column_values.specs.Values.{FitsColumns};
 ghost use Rattle.column_values.specs.MadeUp.{made_up};
 ghost use Rattle.typed_rows.specs.Typed.{typed_tuple, typed_relation, AreNumerals, HoldsNumerals, IsNumeral};
 
 use column_values::add_made_up;
-use dep_model::{ColumnType, OutOfMemory, Row, Schema, Value};
+use dep_model::{OutOfMemory, Row, Value};
+use schema_model::{ColumnType, Schema};
 use std::alloc::Global;
 
 /// The rows with values of the columns' types in place of their numbers.

@@ -10,12 +10,12 @@ use Rattle.attr_sets.specs.Attributes.{Attributes, below, only, union, differenc
 use Rattle.attr_sets.proofs.AttributesLemmas.{count_below-difference_only, count_below-pos, count_below-below, tell_empty}
 use Rattle.attr_sets.specs.Sets.{attributes}
 use Rattle.attr_sets.specs.declared.set.AttrSet.{AttrSet}
-use Rattle.dep_model.specs.declared.schema.Schema.{Schema}
+use Rattle.dep_model.specs.Theories.{Theory}
 use Rattle.dep_model.specs.Dependencies.{Dependency, mvd}
 use Rattle.dep_model.specs.OnSchemes.{ImpliedOn}
 use Rattle.dep_model.specs.Forms.{IsBcnf}
 use Rattle.dep_model.specs.Plans.{IsPlan, schemes_of}
-use Rattle.dep_model.specs.Schemas.{width_of, deps_of, theory_of, universe_of}
+use Rattle.dep_model.specs.Theories.{width_of, deps_of, theory_of, universe_of}
 use Rattle.dep_model.specs.Projections.{IsLossless}
 use Rattle.dep_model.proofs.FormLemmas.{replicated_on}
 use Rattle.dep_model.proofs.JoinLemmas.{split_lossless}
@@ -171,12 +171,12 @@ kept_all P all kept among each =
     (λ k has. All-contains P (schemes_of all) (attributes k) each (Contains-map attributes all k has)) kept among)
 
 -- ---- the plan of a schema
-module _ (s : Schema) (all : List AttrSet)
+module _ (s : Theory) (all : List AttrSet)
     (split : IsWideSplitOf (width_of s) (theory_of s) (universe_of s) (schemes_of all)) where
   pub schema_parts : AreParts (width_of s) (theory_of s) (universe_of s) (schemes_of all)
   schema_parts =
       split_parts (width_of s) (theory_of s) (universe_of s) (schemes_of all) (λ k m. m)
-      (λ empty. true≢false (sym (lt-ltb 0 (width_of s) s.valid.names_not_empty) ∙ empty 0)) split
+      (λ empty. true≢false (sym (lt-ltb 0 (width_of s) s.valid.not_empty) ∙ empty 0)) split
 
   pub schema_plan : IsPlan (width_of s) (schemes_of all)
   schema_plan = split_is_plan (width_of s) (theory_of s) (schemes_of all) schema_parts
@@ -193,6 +193,6 @@ module _ (s : Schema) (all : List AttrSet)
   schema_bcnf =
       All-weaker (λ (x : Attributes). IsSubset x (universe_of s) × (HasPair (width_of s) (theory_of s) x → ⊥))
       (IsBcnf (width_of s) (theory_of s))
-      (λ x is. without_pair_bcnf (width_of s) (deps_of s) x s.valid.names_within_limit s.valid.deps_within is.0 is.1)
+      (λ x is. without_pair_bcnf (width_of s) (deps_of s) x s.valid.within_limit s.valid.deps_within is.0 is.1)
       (schemes_of all)
       (λ k d l. (schema_parts.within k d l, schema_parts.none k d l))

@@ -3,12 +3,12 @@ ghost use Rattle.attr_sets.specs.Attributes.{only, IsSubset};
 ghost use Rattle.attr_sets.specs.Sets.{attributes};
 ghost use Rattle.dep_model.specs.Dependencies.{fd};
 ghost use Rattle.dep_model.specs.Implication.{Implies};
-ghost use Rattle.dep_model.specs.Schemas.{width_of, universe_of, theory_of};
+ghost use Rattle.dep_model.specs.Theories.{width_of, universe_of, theory_of};
 ghost use Rattle.wide_bcnf.specs.Pairs.{IsPair, HasPair, IsFirstPair, NoneBefore};
 
 use attr_sets::AttrSet;
 use dep_basis::block;
-use dep_model::Schema;
+use dep_model::Theory;
 
 // Two attributes, in the order of pairs: the first attribute decides, then the second.
 #[derive(Clone, Copy)]
@@ -18,18 +18,18 @@ pub struct Pair {
 }
 
 // The first pair of a scheme of which no pair comes before `from`; so those before are not tried.
-pub fn first_pair(schema: &Schema, scheme: AttrSet, from: Pair) -> Option<Pair>
-    requires scheme { IsSubset (attributes scheme) (universe_of schema.now) }
-    requires from { NoneBefore (width_of schema.now) (theory_of schema.now) (attributes scheme)
+pub fn first_pair(theory: &Theory, scheme: AttrSet, from: Pair) -> Option<Pair>
+    requires scheme { IsSubset (attributes scheme) (universe_of theory.now) }
+    requires from { NoneBefore (width_of theory.now) (theory_of theory.now) (attributes scheme)
         from.first from.second }
     ensures none { IsNone result
-        → HasPair (width_of schema.now) (theory_of schema.now) (attributes scheme) → ⊥ }
-    ensures first { IfSome result (λ pair. IsFirstPair (width_of schema.now) (theory_of schema.now)
+        → HasPair (width_of theory.now) (theory_of theory.now) (attributes scheme) → ⊥ }
+    ensures first { IfSome result (λ pair. IsFirstPair (width_of theory.now) (theory_of theory.now)
         (attributes scheme) pair.first pair.second) }
 {
     let mut least = from.second;
-    for first in from.first..schema.width() {
-        if let Some(second) = second_beside(schema, scheme, first, least) {
+    for first in from.first..theory.width() {
+        if let Some(second) = second_beside(theory, scheme, first, least) {
             return Some(Pair { first, second });
         }
         least = 0;
@@ -39,24 +39,24 @@ pub fn first_pair(schema: &Schema, scheme: AttrSet, from: Pair) -> Option<Pair>
 
 // The least attribute that is the second of a pair of a scheme with this first one, where none below
 // `first` is.
-fn second_beside(schema: &Schema, scheme: AttrSet, first: u8, least: u8) -> Option<u8>
-    requires scheme { IsSubset (attributes scheme) (universe_of schema.now) }
-    requires first { first < width_of schema.now }
+fn second_beside(theory: &Theory, scheme: AttrSet, first: u8, least: u8) -> Option<u8>
+    requires scheme { IsSubset (attributes scheme) (universe_of theory.now) }
+    requires first { first < width_of theory.now }
     requires least { (d : ℕ)
-        → IsPair (width_of schema.now) (theory_of schema.now) (attributes scheme) first d → least ≤ d }
+        → IsPair (width_of theory.now) (theory_of theory.now) (attributes scheme) first d → least ≤ d }
     ensures none { IsNone result → (d : ℕ)
-        → IsPair (width_of schema.now) (theory_of schema.now) (attributes scheme) first d → ⊥ }
+        → IsPair (width_of theory.now) (theory_of theory.now) (attributes scheme) first d → ⊥ }
     ensures pair { IfSome result (λ second.
-        IsPair (width_of schema.now) (theory_of schema.now) (attributes scheme) first second) }
+        IsPair (width_of theory.now) (theory_of theory.now) (attributes scheme) first second) }
     ensures least { IfSome result (λ second. (d : ℕ)
-        → IsPair (width_of schema.now) (theory_of schema.now) (attributes scheme) first d
+        → IsPair (width_of theory.now) (theory_of theory.now) (attributes scheme) first d
         → second ≤ d) }
 {
-    if !can_begin(schema, scheme, first) {
+    if !can_begin(theory, scheme, first) {
         return None;
     }
-    for second in least..schema.width() {
-        if is_pair(schema, scheme, first, second) {
+    for second in least..theory.width() {
+        if is_pair(theory, scheme, first, second) {
             return Some(second);
         }
     }
@@ -64,26 +64,26 @@ fn second_beside(schema: &Schema, scheme: AttrSet, first: u8, least: u8) -> Opti
 }
 
 // Whether an attribute of a scheme is determined by the others; no pair begins with one that is not.
-fn can_begin(schema: &Schema, scheme: AttrSet, first: u8) -> bool
-    requires scheme { IsSubset (attributes scheme) (universe_of schema.now) }
-    requires first { first < width_of schema.now }
+fn can_begin(theory: &Theory, scheme: AttrSet, first: u8) -> bool
+    requires scheme { IsSubset (attributes scheme) (universe_of theory.now) }
+    requires first { first < width_of theory.now }
     ensures begins { (d : ℕ)
-        → IsPair (width_of schema.now) (theory_of schema.now) (attributes scheme) first d
+        → IsPair (width_of theory.now) (theory_of theory.now) (attributes scheme) first d
         → IsTrue result }
 {
     if !scheme.contains(first) {
         return false;
     }
-    determines(schema, scheme.without(first), first)
+    determines(theory, scheme.without(first), first)
 }
 
 // Whether two attributes are a pair of a scheme.
-fn is_pair(schema: &Schema, scheme: AttrSet, first: u8, second: u8) -> bool
-    requires scheme { IsSubset (attributes scheme) (universe_of schema.now) }
-    requires first { first < width_of schema.now }
-    requires second { second < width_of schema.now }
+fn is_pair(theory: &Theory, scheme: AttrSet, first: u8, second: u8) -> bool
+    requires scheme { IsSubset (attributes scheme) (universe_of theory.now) }
+    requires first { first < width_of theory.now }
+    requires second { second < width_of theory.now }
     ensures pair { IsTrue result
-        ↔ IsPair (width_of schema.now) (theory_of schema.now) (attributes scheme) first second }
+        ↔ IsPair (width_of theory.now) (theory_of theory.now) (attributes scheme) first second }
 {
     if !scheme.contains(first) {
         return false;
@@ -92,15 +92,15 @@ fn is_pair(schema: &Schema, scheme: AttrSet, first: u8, second: u8) -> bool
     if !others.contains(second) {
         return false;
     }
-    determines(schema, others.without(second), first)
+    determines(theory, others.without(second), first)
 }
 
 // Whether a set determines an attribute, by all dependencies.
-fn determines(schema: &Schema, set: AttrSet, attribute: u8) -> bool
-    requires set { IsSubset (attributes set) (universe_of schema.now) }
-    requires attribute { attribute < width_of schema.now }
+fn determines(theory: &Theory, set: AttrSet, attribute: u8) -> bool
+    requires set { IsSubset (attributes set) (universe_of theory.now) }
+    requires attribute { attribute < width_of theory.now }
     ensures implied { IsTrue result
-        ↔ Implies (width_of schema.now) (theory_of schema.now) (fd (attributes set) (only attribute)) }
+        ↔ Implies (width_of theory.now) (theory_of theory.now) (fd (attributes set) (only attribute)) }
 {
-    block(schema, set, attribute).is_none()
+    block(theory, set, attribute).is_none()
 }

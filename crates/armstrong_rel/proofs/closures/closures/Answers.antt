@@ -9,7 +9,7 @@ use Rattle.attr_sets.specs.Sets.{attributes}
 use Rattle.attr_sets.specs.declared.set.AttrSet.{AttrSet}
 use Rattle.attr_sets.proofs.AttributesLemmas.{same_at}
 use Rattle.fd_closure.specs.declared.known.KnownClosure.{KnownClosure}
-use Rattle.dep_model.specs.Schemas.{width_of, theory_of}
+use Rattle.dep_model.specs.Theories.{width_of, theory_of}
 use Rattle.fd_closure.specs.Closures.{IsKnownClosure}
 use Rattle.armstrong_rel.proofs.FoundLemmas.{next_within, parts_left-less}
 use Rattle.armstrong_rel.proofs.KnownLemmas.{closure_known}
@@ -23,7 +23,7 @@ at_hand c = subst (λ (o : Option AttrSet). IfSome o (λ set. IsSubset (attribut
 pub loop-next-init : goal.loop-next-init
 loop-next-init c = record {
   within = λ k m. absurd (true≢false (sym m ∙ same_at c.empty.ensures.members k));
-  known = subst (λ (xs : List KnownClosure). All (IsKnownClosure (width_of c.args.schema.now) (theory_of c.args.schema.now)) xs) (sym c.new-table.ensures.items) (All-nil (IsKnownClosure (width_of c.args.schema.now) (theory_of c.args.schema.now)));
+  known = subst (λ (xs : List KnownClosure). All (IsKnownClosure (width_of c.args.theory.now) (theory_of c.args.theory.now)) xs) (sym c.new-table.ensures.items) (All-nil (IsKnownClosure (width_of c.args.theory.now) (theory_of c.args.theory.now)));
 }
 
 pub next_subset-next-requires : goal.next_subset-next-requires
@@ -34,7 +34,7 @@ loop-next-smaller c = parts_left-less c.in-Some.set c.loop-next.next c.next_subs
 
 pub loop-next-preserved : goal.loop-next-preserved
 loop-next-preserved c =
-    let s = c.args.schema.now in
+    let s = c.args.theory.now in
     let set = c.in-Some.set in
     let inside = at_hand (goal.at.loop-next-preserved c).In-Some in
     let is = closure_known s c.deps.result.now c.deps.ensures.deps (attributes set) (attributes c.functional_closure.result)

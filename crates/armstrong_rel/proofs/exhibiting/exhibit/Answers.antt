@@ -1,10 +1,10 @@
--- What is left to prove of `exhibit`: its clauses `rows`, `exact`, `legal`, `typed` and `within_limit`, and
+-- What is left to prove of `exhibit`: its clauses `rows`, `exact`, `legal` and `within_limit`, and
 -- that there are too many rows where it says so, by `ExhibitLemmas` and `FoundLemmas`.
 use Rattle.std.proofs.Common.{◌<◌, ◌≤◌, length, refl, arith}
 use Rattle.std.specs.Prelude.{IsNone}
 use Rattle.attr_sets.specs.Sets.{attributes}
 use Rattle.dep_model.specs.Plans.{schemes_of}
-use Rattle.dep_model.specs.Schemas.{width_of, theory_of}
+use Rattle.dep_model.specs.Theories.{width_of, theory_of}
 use Rattle.armstrong_rel.specs.declared.refusal.TheConstants.{MOST_EXHIBITED_ROWS}
 use Rattle.armstrong_rel.proofs.ExactLemmas.{IsLegalExhibit}
 use Rattle.armstrong_rel.proofs.ExhibitLemmas.{schema_functional, left_count, found_exhibit}
@@ -14,7 +14,7 @@ use Rattle.armstrong_rel.proofs.exhibiting.exhibit.Goals.{In_ok-rows_for}
 
 pub returns-then-len-ge-MOST_EXHIBITED_ROWS-clause-refused : goal.returns-then-len-ge-MOST_EXHIBITED_ROWS-clause-refused
 returns-then-len-ge-MOST_EXHIBITED_ROWS-clause-refused c =
-    let s = c.args.schema.now in
+    let s = c.args.theory.now in
     let none : IsNone c.first_mvd.result = rw c.in_default.is refl in
     let functional = schema_functional s c.deps.result.now c.deps.ensures.deps (c.first_mvd.ensures.none none) in
     let count = left_count s c.deps-2.result.now (attributes c.left_attributes-used.result) c.deps-2.ensures.deps c.left_attributes-used.ensures.all_sides in
@@ -25,9 +25,9 @@ returns-then-len-ge-MOST_EXHIBITED_ROWS-clause-refused c =
     )
 
 -- what the rows show
-shown : (c : In_ok-rows_for) → IsLegalExhibit c.args.schema.now c.in_ok-rows_for.field-0.items × (length c.in_ok-rows_for.field-0.items ≤ MOST_EXHIBITED_ROWS)
+shown : (c : In_ok-rows_for) → IsLegalExhibit c.args.theory.now c.in_ok-rows_for.field-0.items × (length c.in_ok-rows_for.field-0.items ≤ MOST_EXHIBITED_ROWS)
 shown c =
-    let s = c.args.schema.now in
+    let s = c.args.theory.now in
     let none : IsNone c.first_mvd.result = rw c.in_default.is refl in
     let functional = schema_functional s c.deps.result.now c.deps.ensures.deps (c.first_mvd.ensures.none none) in
     let few : length c.in_ok-sets.sets.items < MOST_EXHIBITED_ROWS = omega (arith, c.if-len-ge-MOST_EXHIBITED_ROWS.false, c.len-2.ensures, c.in_ok-sets.sets.ok.0) in
@@ -42,9 +42,6 @@ returns-clause-exact c = (shown (goal.at.returns-clause-exact c).In_ok-rows_for)
 
 pub returns-clause-legal : goal.returns-clause-legal
 returns-clause-legal c = (shown (goal.at.returns-clause-legal c).In_ok-rows_for).0.legal
-
-pub returns-clause-typed : goal.returns-clause-typed
-returns-clause-typed c = (shown (goal.at.returns-clause-typed c).In_ok-rows_for).0.typed
 
 pub returns-clause-within_limit : goal.returns-clause-within_limit
 returns-clause-within_limit c = (shown (goal.at.returns-clause-within_limit c).In_ok-rows_for).1

@@ -6,7 +6,7 @@ use Rattle.attr_sets.specs.Attributes.{Attributes, below, only, union, differenc
 use Rattle.attr_sets.specs.Sets.{attributes}
 use Rattle.attr_sets.specs.declared.set.AttrSet.{AttrSet}
 use Rattle.attr_sets.proofs.AttributesLemmas.{same_at}
-use Rattle.dep_model.specs.Schemas.{width_of, theory_of}
+use Rattle.dep_model.specs.Theories.{width_of, theory_of}
 use Rattle.fd_closure.specs.LeftSides.{left_sides}
 use Rattle.armstrong_rel.specs.Parts.{in_no_left_side}
 use Rattle.armstrong_rel.specs.Searching.{AreTriedIrreducible}
@@ -18,7 +18,7 @@ use Rattle.armstrong_rel.proofs.irreducible.add_lacking.Goals.{then-contains+in_
 
 pub loop-attribute-init : goal.loop-attribute-init
 loop-attribute-init c =
-    let s = c.args.schema.now in
+    let s = c.args.theory.now in
     lacking_start (width_of s) (theory_of s) (schema_within s) c.requires.functional (attributes c.args.part) c.requires.part _ c.requires.found
 
 -- the attributes in no left side, and the part with all of them
@@ -29,7 +29,7 @@ rest_is n ds full used rest width all count is made =
 
 pub loop-attribute-preserved : goal.loop-attribute-preserved
 loop-attribute-preserved c =
-    let s = c.args.schema.now in
+    let s = c.args.theory.now in
     let n = width_of s in
     let ds = theory_of s in
     let z = attributes c.args.part in
@@ -61,7 +61,7 @@ loop-attribute-preserved c =
 
 pub returns-in_ok-add_set-2 : goal.returns-in_ok-add_set-2
 returns-in_ok-add_set-2 c =
-    let s = c.args.schema.now in
+    let s = c.args.theory.now in
     let n = width_of s in
     let ds = theory_of s in
     let z = attributes c.args.part in
@@ -79,7 +79,7 @@ returns-in_ok-add_set-2 c =
 
 pub returns-else-intersects : goal.returns-else-intersects
 returns-else-intersects c =
-    let s = c.args.schema.now in
+    let s = c.args.theory.now in
     let n = width_of s in
     let ds = theory_of s in
     let z = attributes c.args.part in

@@ -5,7 +5,7 @@ use Rattle.std.proofs.lemmas.Bool.{true≢false, false_from_ne_true}
 use Rattle.attr_sets.specs.Attributes.{intersection}
 use Rattle.attr_sets.specs.Sets.{attributes}
 use Rattle.attr_sets.proofs.AttributesLemmas.{same_at, same_number-decides}
-use Rattle.dep_model.specs.Schemas.{width_of, theory_of}
+use Rattle.dep_model.specs.Theories.{width_of, theory_of}
 use Rattle.fd_closure.specs.LeftSides.{left_sides}
 use Rattle.armstrong_rel.proofs.PartLemmas.{schema_within, left_sides_low}
 use Rattle.armstrong_rel.proofs.FoundLemmas.{part_not_closed}
@@ -13,12 +13,12 @@ use Rattle.armstrong_rel.proofs.irreducible.add_sets_with.Goals as goal
 
 pub closed_at-closed-requires-clause-set : goal.closed_at-closed-requires-clause-set
 closed_at-closed-requires-clause-set c k m =
-    let s = c.args.schema.now in
+    let s = c.args.theory.now in
     left_sides_low (width_of s) (theory_of s) (schema_within s) k (c.requires.part k m)
 
 pub returns-then-ne : goal.returns-then-ne
 returns-then-ne c =
-    let s = c.args.schema.now in
+    let s = c.args.theory.now in
     let ds = theory_of s in
     let t = attributes c.closed_at-closed.result in
     let both : attributes c.intersection.result ≡ intersection t (left_sides ds) =

@@ -6,7 +6,7 @@ use Rattle.std.proofs.lemmas.Bool.Decides.{nat_tests}
 use Rattle.attr_sets.specs.Sets.{attributes}
 use Rattle.attr_sets.specs.declared.set.AttrSet.{AttrSet}
 use Rattle.attr_sets.proofs.AttributesLemmas.{same_at}
-use Rattle.dep_model.specs.Schemas.{width_of, universe_of, theory_of}
+use Rattle.dep_model.specs.Theories.{width_of, universe_of, theory_of}
 use Rattle.fd_closure.specs.LeftSides.{left_sides}
 use Rattle.armstrong_rel.proofs.PartLemmas.{schema_within, left_sides_low}
 use Rattle.armstrong_rel.proofs.SharedLemmas.{IsSharedBelow, shared_pass, shared_more, shared_all}
@@ -15,7 +15,7 @@ use Rattle.armstrong_rel.proofs.irreducible.shared_beyond.Goals.{then-contains, 
 
 pub closed_at-closed-requires-clause-set : goal.closed_at-closed-requires-clause-set
 closed_at-closed-requires-clause-set c k m =
-    let s = c.args.schema.now in
+    let s = c.args.theory.now in
     let a = c.loop-attribute.attribute in
     let low : a < width_of s = omega (arith, c.loop-attribute-test.true, c.width-attribute-end.ensures.count) in
     elim (cases_eq k a) [
@@ -27,7 +27,7 @@ closed_at-closed-requires-clause-set c k m =
 
 pub loop-attribute-preserved : goal.loop-attribute-preserved
 loop-attribute-preserved c =
-    let s = c.args.schema.now in
+    let s = c.args.theory.now in
     let n = width_of s in
     let ds = theory_of s in
     let z = attributes c.args.part in
@@ -54,7 +54,7 @@ loop-attribute-preserved c =
 
 pub returns : goal.returns
 returns c =
-    let s = c.args.schema.now in
+    let s = c.args.theory.now in
     let end : c.loop-attribute.attribute ≡ width_of s = omega (arith, c.loop-attribute-test.false, c.loop-attribute.auto, c.width-attribute-end.ensures.count) in
     record {
       shared = shared_all (width_of s) (theory_of s) (attributes c.args.part) (attributes c.loop-attribute.shared)

@@ -7,7 +7,7 @@ use Rattle.attr_sets.specs.declared.set.TheConstants.{MOST_ATTRIBUTES}
 use Rattle.attr_sets.specs.Attributes.{Attributes, union, IsSubset}
 use Rattle.attr_sets.specs.Sets.{attributes}
 use Rattle.attr_sets.proofs.AttributesLemmas.{attributes_below, tell_subset, count_below-lt, count_below-le, same_at}
-use Rattle.dep_model.specs.Schemas.{width_of, deps_of}
+use Rattle.dep_model.specs.Theories.{width_of, deps_of}
 use Rattle.fd_closure.proofs.ClosureLemmas.{functionally_closed_holds}
 use Rattle.derivation.specs.declared.deriv.Deriv.{Deriv}
 use Rattle.derivation.specs.Trees.{Tree, leaf, step, pair, given, augmentation, transitivity}
@@ -23,7 +23,7 @@ loop-closed-init c =
 
 pub returns-in_default-clause-found_where_implied : goal.returns-in_default-clause-found_where_implied
 returns-in_default-clause-found_where_implied c =
-    let s = c.args.schema.now in
+    let s = c.args.theory.now in
     let x = attributes c.args.lhs in
     let y = attributes c.args.rhs in
     let closed = attributes c.loop-closed.closed in
@@ -63,7 +63,7 @@ loop-closed-preserved c =
     (suc c.loop-closed.invariant.0, (before, k, t, c.loop-closed.invariant.1, outside, c.in-Some.ensures.first, ap with_set wider ∙ ap with_tree grown))
 
 -- the derivation returned is the chain
-whole : (c : goal.In_ok-new) → IsFunctionalChain c.args.schema.now (attributes c.args.lhs) (attributes c.args.rhs) (tree_of c.in_ok-new.field-0.value)
+whole : (c : goal.In_ok-new) → IsFunctionalChain c.args.theory.now (attributes c.args.lhs) (attributes c.args.rhs) (tree_of c.in_ok-new.field-0.value)
 whole c = record {
   steps = c.loop-closed.invariant.0;
   last = record { closed = attributes c.loop-closed.closed; tree = tree_of c.loop-closed.chain.value };
@@ -73,16 +73,16 @@ whole c = record {
 }
 
 pub returns-clause-found_where_implied : goal.returns-clause-found_where_implied
-returns-clause-found_where_implied c = ((λ _. chain_obeyed c.args.schema.now (attributes c.args.lhs) (attributes c.args.rhs) (tree_of c.in_ok-new.field-0.value) (whole c)), (λ _. refl))
+returns-clause-found_where_implied c = ((λ _. chain_obeyed c.args.theory.now (attributes c.args.lhs) (attributes c.args.rhs) (tree_of c.in_ok-new.field-0.value) (whole c)), (λ _. refl))
 
 pub returns-clause-chain : goal.returns-clause-chain
 returns-clause-chain c = whole c
 
 pub returns-clause-proves : goal.returns-clause-proves
-returns-clause-proves c = chain_proves c.args.schema.now (attributes c.args.lhs) (attributes c.args.rhs) (tree_of c.in_ok-new.field-0.value) c.requires.lhs (whole c)
+returns-clause-proves c = chain_proves c.args.theory.now (attributes c.args.lhs) (attributes c.args.rhs) (tree_of c.in_ok-new.field-0.value) c.requires.lhs (whole c)
 
 pub returns-clause-node_bound : goal.returns-clause-node_bound
-returns-clause-node_bound c = (chain_small c.args.schema.now (attributes c.args.lhs) (attributes c.args.rhs) (tree_of c.in_ok-new.field-0.value) (whole c)).0
+returns-clause-node_bound c = (chain_small c.args.theory.now (attributes c.args.lhs) (attributes c.args.rhs) (tree_of c.in_ok-new.field-0.value) (whole c)).0
 
 pub returns-clause-level_bound : goal.returns-clause-level_bound
-returns-clause-level_bound c = (chain_small c.args.schema.now (attributes c.args.lhs) (attributes c.args.rhs) (tree_of c.in_ok-new.field-0.value) (whole c)).1
+returns-clause-level_bound c = (chain_small c.args.theory.now (attributes c.args.lhs) (attributes c.args.rhs) (tree_of c.in_ok-new.field-0.value) (whole c)).1

@@ -9,7 +9,7 @@ use Rattle.derivation.specs.Chains.{Reaches}
 use Rattle.basis_proofs.proofs.chains.functional_chain.Given as goal
 
 abbrev pub invariant-loop-closed : goal.invariant-loop-closed
-invariant-loop-closed l = (m : ℕ) × Reaches l.schema (attributes l.fn.lhs) (attributes l.rhs) m (record { closed = attributes l.closed; tree = tree_of l.chain.value })
+invariant-loop-closed l = (m : ℕ) × Reaches l.theory (attributes l.fn.lhs) (attributes l.rhs) m (record { closed = attributes l.closed; tree = tree_of l.chain.value })
 
 abbrev pub decreases-loop-closed : goal.decreases-loop-closed
 decreases-loop-closed l = MOST_ATTRIBUTES - count_below (attributes l.closed) MOST_ATTRIBUTES

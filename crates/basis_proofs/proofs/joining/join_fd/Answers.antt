@@ -6,7 +6,7 @@ use Rattle.std.proofs.lemmas.Bool.Decides.{nat_tests}
 use Rattle.attr_sets.specs.Attributes.{only, union, difference}
 use Rattle.attr_sets.specs.Sets.{attributes}
 use Rattle.attr_sets.specs.declared.set.TheConstants.{MOST_ATTRIBUTES}
-use Rattle.dep_model.specs.Schemas.{width_of, theory_of}
+use Rattle.dep_model.specs.Theories.{width_of, theory_of}
 use Rattle.derivation.specs.Derivs.{tree_of}
 use Rattle.attr_sets.proofs.AttributesLemmas.{same_at}
 use Rattle.derivation.proofs.ProvesLemmas.{fd_restated}
@@ -23,13 +23,13 @@ loop-first-init c =
     let t = tree_of c.in_ok-joined.joined.value in
     record {
       left = left_first x y left t c.difference-left.ensures.members c.in_ok-joined.ensures.size;
-      proves = fd_restated c.args.schema.now t x (attributes c.intersection.result) x (difference y left) refl
+      proves = fd_restated c.args.theory.now t x (attributes c.intersection.result) x (difference y left) refl
           (right_first x y left (attributes c.intersection.result) c.difference-left.ensures.members c.intersection.ensures.members) c.in_ok-joined.ensures.proves;
     }
 
 pub show_closed-requires-clause-implied : goal.show_closed-requires-clause-implied
 show_closed-requires-clause-implied c =
-    fd_each-to (width_of c.args.schema.now) (theory_of c.args.schema.now) (attributes c.args.lhs) (attributes c.args.rhs) c.requires.implied c.in-Some.first
+    fd_each-to (width_of c.args.theory.now) (theory_of c.args.theory.now) (attributes c.args.lhs) (attributes c.args.rhs) c.requires.implied c.in-Some.first
     (c.loop-first.invariant.left.within c.in-Some.first c.in-Some.ensures.first.member)
 
 pub loop-first-smaller : goal.loop-first-smaller
@@ -38,7 +38,7 @@ loop-first-smaller c =
 
 pub loop-first-preserved : goal.loop-first-preserved
 loop-first-preserved c =
-    let s = c.args.schema.now in
+    let s = c.args.theory.now in
     let x = attributes c.args.lhs in
     let y = attributes c.args.rhs in
     let a = c.in-Some.first in

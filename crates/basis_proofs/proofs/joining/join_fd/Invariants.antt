@@ -11,7 +11,7 @@ use Rattle.basis_proofs.proofs.joining.join_fd.Given as goal
 abbrev pub invariant-loop-first : goal.invariant-loop-first
 invariant-loop-first l = record {
   left : IsLeft (attributes l.lhs) (attributes l.fn.rhs) (attributes l.left) (tree_of l.joined.value);
-  proves : Proves l.schema (tree_of l.joined.value) (fd (attributes l.lhs) (difference (attributes l.fn.rhs) (attributes l.left)));
+  proves : Proves l.theory (tree_of l.joined.value) (fd (attributes l.lhs) (difference (attributes l.fn.rhs) (attributes l.left)));
 }
 
 abbrev pub decreases-loop-first : goal.decreases-loop-first

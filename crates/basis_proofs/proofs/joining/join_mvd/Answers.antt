@@ -18,7 +18,7 @@ loop-first-init c =
     let t = tree_of c.in_ok-joined.joined.value in
     record {
       left = left_first x y left t c.difference-left.ensures.members c.in_ok-joined.ensures.size;
-      proves = mvd_restated c.args.schema.now t x (attributes c.intersection.result) x (difference y left) refl
+      proves = mvd_restated c.args.theory.now t x (attributes c.intersection.result) x (difference y left) refl
           (right_first x y left (attributes c.intersection.result) c.difference-left.ensures.members c.intersection.ensures.members) c.in_ok-joined.ensures.proves;
     }
 
@@ -29,7 +29,7 @@ loop-first-smaller c =
 
 pub loop-first-preserved : goal.loop-first-preserved
 loop-first-preserved c =
-    let s = c.args.schema.now in
+    let s = c.args.theory.now in
     let x = attributes c.args.lhs in
     let y = attributes c.args.rhs in
     let a = c.in-Some.first in

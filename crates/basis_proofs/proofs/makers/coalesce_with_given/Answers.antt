@@ -14,7 +14,7 @@ use Rattle.basis_proofs.proofs.makers.coalesce_with_given.Goals as goal
 
 pub returns-clause-proves : goal.returns-clause-proves
 returns-clause-proves c x w v apart member first second =
-    let s = c.args.schema.now in
+    let s = c.args.theory.now in
     let t = attributes c.args.rhs in
     let a = c.args.attribute in
     let part = tree_of c.args.part.value in

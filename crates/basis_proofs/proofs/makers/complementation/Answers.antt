@@ -4,7 +4,7 @@ use mathlib.Core.Path.{fun_ext}
 use Rattle.attr_sets.specs.Attributes.{union, difference}
 use Rattle.attr_sets.specs.Sets.{attributes}
 use Rattle.dep_model.specs.Dependencies.{mvd}
-use Rattle.dep_model.specs.Schemas.{universe_of}
+use Rattle.dep_model.specs.Theories.{universe_of}
 use Rattle.derivation.specs.declared.deriv.Deriv.{Deriv}
 use Rattle.derivation.specs.Trees.{complementation, step}
 use Rattle.derivation.specs.Derivs.{tree_of}
@@ -14,7 +14,7 @@ use Rattle.basis_proofs.proofs.makers.complementation.Goals as goal
 
 pub returns-clause-proves : goal.returns-clause-proves
 returns-clause-proves c =
-    let s = c.args.schema.now in
+    let s = c.args.theory.now in
     let x = attributes c.args.lhs in
     let from = tree_of c.in_ok-from.from.value in
     let P : Deriv → Type 0 = λ d. Proves s (tree_of d) (mvd x (difference (universe_of s) x)) in

@@ -12,5 +12,5 @@ pub returns-clause-proves : goal.returns-clause-proves
 returns-clause-proves c =
     let x = attributes c.args.lhs in
     let y = attributes c.args.rhs in
-    let P : Deriv → Type 0 = λ d. Proves c.args.schema.now (tree_of d) (mvd x y) in
-    subst P (sym c.in_ok-new.ensures.ok) (mreflexivity_proves c.args.schema.now x y c.requires.lhs c.requires.rhs)
+    let P : Deriv → Type 0 = λ d. Proves c.args.theory.now (tree_of d) (mvd x y) in
+    subst P (sym c.in_ok-new.ensures.ok) (mreflexivity_proves c.args.theory.now x y c.requires.lhs c.requires.rhs)

@@ -10,7 +10,7 @@ use Rattle.dep_model.proofs.FailureLemmas.{IfOk_both}
 use Rattle.basis_proofs.proofs.showing.cut_closed.Goals as goal
 
 pub coalesce_with_given-requires-clause-rhs : goal.coalesce_with_given-requires-clause-rhs
-coalesce_with_given-requires-clause-rhs c = (given_within c.args.schema.now c.args.k (Fd c.args.lhs c.args.rhs) c.requires.cut.given).1
+coalesce_with_given-requires-clause-rhs c = (given_within c.args.theory.now c.args.k (Fd c.args.lhs c.args.rhs) c.requires.cut.given).1
 
 pub returns : goal.returns
 returns c =
@@ -18,6 +18,6 @@ returns c =
     record {
       proof = IfOk_both c.coalesce_with_given.result
           (c.coalesce_with_given.ensures.proves (attributes c.args.from.lhs) (attributes c.args.from.part) (attributes c.args.lhs) c.requires.cut.cutting.apart lossless.member lossless.proves c.in_ok-given.ensures.proves)
-          (c.coalesce_with_given.ensures.size (8 * MOST_ATTRIBUTES + 2) (5 * MOST_ATTRIBUTES + 2) (part_size c.args.schema.now (attributes c.args.from.lhs) c.args.attribute (attributes c.args.from.part) (tree_of c.args.from.deriv.value) lossless) c.in_ok-given.ensures.size)
+          (c.coalesce_with_given.ensures.size (8 * MOST_ATTRIBUTES + 2) (5 * MOST_ATTRIBUTES + 2) (part_size c.args.theory.now (attributes c.args.from.lhs) c.args.attribute (attributes c.args.from.part) (tree_of c.args.from.deriv.value) lossless) c.in_ok-given.ensures.size)
           (λ b proves size. record { proves = proves; size = size_grows (tree_of b.value) (8 * MOST_ATTRIBUTES + 2 + 4) (5 * MOST_ATTRIBUTES + 2 + 3) (8 * MOST_ATTRIBUTES + 6) (5 * MOST_ATTRIBUTES + 6) (omega arith) (omega arith) size });
     }

@@ -16,7 +16,7 @@ returns-in-Ok c =
     let is : attributes c.difference.result ≡ difference (attributes from.part) (right_of d) =
     subst (λ (t : Attributes). attributes c.difference.result ≡ difference (attributes from.part) t) c.sides.ensures.right c.difference.ensures.members in
     record {
-      proof = next_part_outside c.args.schema.now c.args.attribute c.args.k c.args.dep from (record { lhs = from.lhs; part = c.difference.result; deriv = c.in-Ok.deriv })
+      proof = next_part_outside c.args.theory.now c.args.attribute c.args.k c.args.dep from (record { lhs = from.lhs; part = c.difference.result; deriv = c.in-Ok.deriv })
           (tree_of c.in_ok-given.given.value) c.requires.cut refl c.in_ok-given.ensures.size c.in-Ok.ensures.size c.requires.without is
           (c.in-Ok.ensures.concludes (left_of d) (right_of d) c.requires.cut.proof.candidate.outside (part_in_side (attributes from.part) d c.requires.cut.cutting) c.requires.cut.proof.proves c.in_ok-given.ensures.proves);
     }

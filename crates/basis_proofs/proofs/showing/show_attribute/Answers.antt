@@ -10,7 +10,7 @@ use Rattle.attr_sets.specs.Sets.{attributes}
 use Rattle.dep_model.specs.declared.dep.Dep.{Dep}
 use Rattle.dep_model.specs.declared.dep.Dep.TheVariants.{Fd}
 use Rattle.dep_model.specs.Deps.{dependencies_of}
-use Rattle.dep_model.specs.Schemas.{width_of, universe_of, deps_of}
+use Rattle.dep_model.specs.Theories.{width_of, universe_of, deps_of}
 use Rattle.derivation.specs.Derivs.{tree_of}
 use Rattle.dep_basis.specs.Refining.{LeavesWhole}
 use Rattle.basis_proofs.specs.CutProofs.{IsPartProof}
@@ -20,7 +20,7 @@ use Rattle.basis_proofs.proofs.showing.show_attribute.Goals as goal
 
 pub loop-k-init : goal.loop-k-init
 loop-k-init c =
-    let s = c.args.schema.now in
+    let s = c.args.theory.now in
     let x = attributes c.args.lhs in
     let is : attributes c.difference.result ≡ difference (universe_of s) x = fun_ext (λ k.
     let whole : attributes c.full.result k ≡ below (width_of s) k = same_at c.full.ensures.members k ∙ ap (λ (m : ℕ). below m k) c.width.ensures.count in
@@ -32,11 +32,11 @@ loop-k-init c =
 
 pub cut_part-requires : goal.cut_part-requires
 cut_part-requires c =
-    let s = c.args.schema.now in
+    let s = c.args.theory.now in
     let k = c.in-Some.k in
     let zero : Dep = Fd (record { 0 = 0 }) (record { 0 = 0 }) in
     let now = c.loop-k.invariant in
-    let within_limit : width_of s ≤ 128 = s.valid.names_within_limit in
+    let within_limit : width_of s ≤ 128 = s.valid.within_limit in
     record {
       cut = record {
         given = subst (λ (ds : List Dep). slice_get ds k ≡ Some (get_or c.deps-deps.result.now k zero)) c.deps-deps.ensures.deps (slice_get-get_or c.deps-deps.result.now k zero c.in-Some.ensures.best.within);
@@ -49,7 +49,7 @@ cut_part-requires c =
 
 pub returns : goal.returns
 returns c =
-    let s = c.args.schema.now in
+    let s = c.args.theory.now in
     let w = attributes c.loop-k.from.part in
     let lossless = c.loop-k.invariant.proof in
     let whole : All (LeavesWhole w w) (dependencies_of (deps_of s)) = subst (λ (ds : List Dep). All (LeavesWhole w w) (dependencies_of ds)) c.deps-deps.ensures.deps (c.in_default.ensures.none refl) in

@@ -10,7 +10,7 @@ use Rattle.basis_proofs.proofs.showing.show_attribute.Given as goal
 abbrev pub invariant-loop-k : goal.invariant-loop-k
 invariant-loop-k l = record {
   same_lhs : l.from.lhs ≡ l.fn.lhs;
-  proof : IsPartProof l.schema (attributes l.fn.lhs) l.attribute (attributes l.from.part) (tree_of l.from.deriv.value);
+  proof : IsPartProof l.theory (attributes l.fn.lhs) l.attribute (attributes l.from.part) (tree_of l.from.deriv.value);
 }
 
 abbrev pub decreases-loop-k : goal.decreases-loop-k

@@ -10,7 +10,7 @@ returns c = record {
   obeys = λ n r over are low implied.
       implied_obeyed n r c.args.obeyed.now (attributes c.args.asked.left) c.single.result c.args.asked.right over are
       c.single.ensures.members
-      ((c.follows.ensures.implied n are.within low.left
+      ((c.follows.ensures.implied.over n are.within low.left
       (subst (λ (y : Attributes). IsSubset y (below n)) (sym c.single.ensures.members)
       (only_below c.args.asked.right n low.right))).0 implied);
 }

@@ -11,7 +11,7 @@ use Rattle.dep_model.specs.declared.dep.Dep.{Dep}
 use Rattle.dep_model.specs.declared.dep.Dep.TheVariants.{Fd}
 use Rattle.dep_model.specs.Dependencies.{Dependency}
 use Rattle.dep_model.specs.Deps.{dependency_of, dependencies_of, IsDepWithin}
-use Rattle.dep_model.specs.Schemas.{theory_of, deps_of, universe_of}
+use Rattle.dep_model.specs.Theories.{theory_of, deps_of, universe_of}
 use Rattle.closure_steps.specs.Steps.{Adds}
 use Rattle.closure_steps.proofs.steps.next_step.Goals as goal
 
@@ -29,7 +29,7 @@ short_of items ds k same short = omega (arith, short, ap (λ (es : List Dep). le
 
 pub loop-k-preserved : goal.loop-k-preserved
 loop-k-preserved c =
-    let s = c.args.schema.now in
+    let s = c.args.theory.now in
     let ds = theory_of s in
     let k = c.loop-k.k in
     let items = c.deps-dep-items.result.now in
@@ -41,7 +41,7 @@ loop-k-preserved c =
 
 pub returns-then-not-is_empty-clause-within : goal.returns-then-not-is_empty-clause-within
 returns-then-not-is_empty-clause-within c = λ a member.
-    let s = c.args.schema.now in
+    let s = c.args.theory.now in
     let k = c.loop-k.k in
     let items = c.deps-dep-items.result.now in
     let same = c.deps-dep-items.ensures.deps in
@@ -53,7 +53,7 @@ returns-then-not-is_empty-clause-within c = λ a member.
 
 pub returns-clause-none : goal.returns-clause-none
 returns-clause-none c =
-    let s = c.args.schema.now in
+    let s = c.args.theory.now in
     let ds = theory_of s in
     let past : length ds ≤ c.loop-k.k = omega (arith, c.loop-k-test.false, ap (λ (es : List Dep). length es) c.deps-dep-items.ensures.deps, length-map (deps_of s) dependency_of) in
     λ _. subst (λ (es : List Dependency). All (λ d. Adds (attributes c.args.closed) d → ⊥) es) (take_all c.loop-k.k ds past) c.loop-k.invariant

@@ -8,7 +8,7 @@ use Rattle.std.specs.Prelude.{All}
 use Rattle.attr_sets.specs.Attributes.{Attributes, IsSubset}
 use Rattle.attr_sets.specs.Sets.{attributes}
 use Rattle.dep_model.specs.Keys.{InClosure}
-use Rattle.dep_model.specs.Schemas.{width_of, universe_of, theory_of}
+use Rattle.dep_model.specs.Theories.{width_of, universe_of, theory_of}
 use Rattle.closure_steps.specs.declared.without.Without.{Without}
 use Rattle.closure_steps.specs.Without.{IsClosureWithout}
 use Rattle.closure_steps.proofs.WithoutLemmas.{AreWithoutBelow, without_push, without_skip, without_done}
@@ -17,7 +17,7 @@ use Rattle.closure_steps.proofs.without.closures_without.Goals as goal
 
 pub loop-attribute-preserved : goal.loop-attribute-preserved
 loop-attribute-preserved c =
-    let s = c.args.schema.now in
+    let s = c.args.theory.now in
     let n = width_of s in
     let ds = theory_of s in
     let x = attributes c.args.set in
@@ -49,6 +49,6 @@ loop-attribute-preserved c =
 
 pub returns-clause-closures : goal.returns-clause-closures
 returns-clause-closures c =
-    let s = c.args.schema.now in
+    let s = c.args.theory.now in
     without_done (width_of s) (theory_of s) (attributes c.args.set) c.loop-attribute.attribute c.loop-attribute.found.items c.loop-attribute.invariant.earlier
     (λ a member. omega (arith, ltb-true a (width_of s) (c.requires.within a member), c.loop-attribute-test.false, c.width-attribute-end.ensures.count))

@@ -5,7 +5,7 @@ use Rattle.std.proofs.lemmas.List.{length-append}
 use Rattle.std.proofs.lemmas.List.Elements.{All-push}
 use Rattle.std.specs.Prelude.{All, IsTrue}
 use Rattle.column_types.specs.FirstTypes.{AreTypesOf}
-use Rattle.dep_model.specs.Columns.{is_column_type}
+use Rattle.schema_model.specs.Columns.{is_column_type}
 use Rattle.column_types.proofs.FirstLemmas.{types_more}
 use Rattle.column_types.proofs.tables.types_of_columns.Goals as goal
 

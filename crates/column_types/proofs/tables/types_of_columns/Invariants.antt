@@ -2,7 +2,7 @@
 use Rattle.std.proofs.Common.{◌≡◌, length}
 use Rattle.std.specs.Prelude.{All, IsTrue}
 use Rattle.column_types.specs.FirstTypes.{AreTypesOf}
-use Rattle.dep_model.specs.Columns.{is_column_type}
+use Rattle.schema_model.specs.Columns.{is_column_type}
 use Rattle.column_types.proofs.tables.types_of_columns.Given as goal
 
 abbrev pub invariant-loop-position : goal.invariant-loop-position

@@ -4,7 +4,7 @@ use Rattle.std.proofs.lemmas.Bool.{false≢true}
 use Rattle.attr_sets.specs.declared.set.TheConstants.{MOST_ATTRIBUTES}
 use Rattle.dep_model.specs.declared.dep.Dep.{Dep}
 use Rattle.dep_model.specs.declared.dep.Dep.TheVariants.{Fd}
-use Rattle.dep_model.specs.Schemas.{deps_of, width_of, theory_of}
+use Rattle.dep_model.specs.Theories.{deps_of, width_of, theory_of}
 use Rattle.cover_accounts.specs.declared.diagnostic.CoverDiagnostic.{CoverDiagnostic}
 use Rattle.cover_accounts.specs.declared.diagnostic.CoverDiagnostic.TheVariants.{Follows}
 use Rattle.cover_accounts.specs.CheckGathering.{AreCoverDiagnosticsBefore}
@@ -16,7 +16,7 @@ first = Fd (record { 0 = 0 }) (record { 0 = 0 })
 
 pub returns-then-not-branch : goal.returns-then-not-branch
 returns-then-not-branch c =
-    let s = c.args.schema.now in
+    let s = c.args.theory.now in
     let n = width_of s in
     let ds = theory_of s in
     let k = c.args.k in
@@ -31,7 +31,7 @@ returns-then-not-branch c =
 
 pub returns : goal.returns
 returns c =
-    let s = c.args.schema.now in
+    let s = c.args.theory.now in
     let n = width_of s in
     let ds = theory_of s in
     let k = c.args.k in

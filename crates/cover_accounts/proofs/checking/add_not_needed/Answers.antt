@@ -4,7 +4,7 @@ use Rattle.std.proofs.Common.{◌≡◌, ℕ, ◌+◌, List, refl, sym, ap, subs
 use Rattle.std.proofs.lemmas.Bool.{false≢true}
 use Rattle.dep_model.specs.declared.dep.Dep.{Dep}
 use Rattle.dep_model.specs.declared.dep.Dep.TheVariants.{Fd}
-use Rattle.dep_model.specs.Schemas.{width_of, theory_of}
+use Rattle.dep_model.specs.Theories.{width_of, theory_of}
 use Rattle.cover_accounts.specs.declared.diagnostic.CoverDiagnostic.{CoverDiagnostic}
 use Rattle.cover_accounts.specs.declared.diagnostic.CoverDiagnostic.TheVariants.{NotNeeded}
 use Rattle.cover_accounts.specs.CheckGathering.{AreCoverDiagnosticsBefore}
@@ -17,11 +17,11 @@ first = Fd (record { 0 = 0 }) (record { 0 = 0 })
 
 pub is_not_needed-requires-clause-within : goal.is_not_needed-requires-clause-within
 is_not_needed-requires-clause-within c =
-    within_at c.args.schema.now c.deps.result.now c.args.k first c.deps.ensures.deps c.requires.position
+    within_at c.args.theory.now c.deps.result.now c.args.k first c.deps.ensures.deps c.requires.position
 
 pub loop-attribute-preserved : goal.loop-attribute-preserved
 loop-attribute-preserved c =
-    let s = c.args.schema.now in
+    let s = c.args.theory.now in
     let n = width_of s in
     let ds = theory_of s in
     let k = c.args.k in

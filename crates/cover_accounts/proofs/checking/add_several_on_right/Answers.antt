@@ -3,7 +3,7 @@ use Rattle.std.proofs.Common.{List, refl, sym, subst, ◌∙◌}
 use Rattle.std.proofs.lemmas.Bool.{false≢true}
 use Rattle.dep_model.specs.declared.dep.Dep.{Dep}
 use Rattle.dep_model.specs.declared.dep.Dep.TheVariants.{Fd}
-use Rattle.dep_model.specs.Schemas.{width_of, theory_of}
+use Rattle.dep_model.specs.Theories.{width_of, theory_of}
 use Rattle.cover_accounts.specs.declared.diagnostic.CoverDiagnostic.{CoverDiagnostic}
 use Rattle.cover_accounts.specs.declared.diagnostic.CoverDiagnostic.TheVariants.{SeveralOnRight}
 use Rattle.cover_accounts.specs.CheckGathering.{AreCoverDiagnosticsBefore}
@@ -15,7 +15,7 @@ first = Fd (record { 0 = 0 }) (record { 0 = 0 })
 
 pub returns-then-not-has_several_on_right : goal.returns-then-not-has_several_on_right
 returns-then-not-has_several_on_right c =
-    let s = c.args.schema.now in
+    let s = c.args.theory.now in
     let k = c.args.k in
     let read = read_at s c.deps.result.now k first c.deps.ensures.deps c.requires.position in
     record {
@@ -26,7 +26,7 @@ returns-then-not-has_several_on_right c =
 
 pub returns : goal.returns
 returns c =
-    let s = c.args.schema.now in
+    let s = c.args.theory.now in
     let n = width_of s in
     let ds = theory_of s in
     let k = c.args.k in

@@ -1,7 +1,7 @@
 -- What the loop of `diagnostics` keeps: the diagnostics of the dependencies so far are had.
-use Rattle.dep_model.specs.Schemas.{width_of, theory_of}
+use Rattle.dep_model.specs.Theories.{width_of, theory_of}
 use Rattle.cover_accounts.specs.CheckGathering.{AreCoverDiagnosticsBefore}
 use Rattle.cover_accounts.proofs.checking.diagnostics.Given as goal
 
 abbrev pub invariant-loop-k : goal.invariant-loop-k
-invariant-loop-k l = AreCoverDiagnosticsBefore (width_of l.schema) (theory_of l.schema) l.k 0 l.found.items
+invariant-loop-k l = AreCoverDiagnosticsBefore (width_of l.theory) (theory_of l.theory) l.k 0 l.found.items

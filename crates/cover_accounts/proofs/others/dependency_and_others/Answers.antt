@@ -4,14 +4,14 @@ use Rattle.std.specs.List.{remove}
 use Rattle.std.specs.Prelude.{All, Some}
 use Rattle.dep_model.specs.declared.dep.Dep.{Dep}
 use Rattle.dep_model.specs.Deps.{dependency_of, dependencies_of, IsDepWithin}
-use Rattle.dep_model.specs.Schemas.{deps_of, universe_of}
+use Rattle.dep_model.specs.Theories.{deps_of, universe_of}
 use Rattle.cover_accounts.proofs.CoverLemmas.{remove_map, remove_all}
 use Rattle.cover_accounts.proofs.GatheringLemmas.{read_at, within_at}
 use Rattle.cover_accounts.proofs.others.dependency_and_others.Goals as goal
 
 pub returns : goal.returns
 returns c =
-    let s = c.args.schema.now in
+    let s = c.args.theory.now in
     let k = c.args.k in
     let dep = c.remove-dep.result in
     let given = c.in_ok-others.ensures.items ∙ c.deps.ensures.deps in

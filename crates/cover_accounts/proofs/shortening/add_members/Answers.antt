@@ -12,7 +12,7 @@ use Rattle.dep_model.specs.declared.dep.Dep.{Dep}
 use Rattle.dep_model.specs.Deps.{dependencies_of, IsDepWithin}
 use Rattle.dep_model.specs.Dependencies.{Dependency, fd}
 use Rattle.dep_model.specs.Projections.{members_below}
-use Rattle.dep_model.specs.Schemas.{width_of, theory_of, universe_of}
+use Rattle.dep_model.specs.Theories.{width_of, theory_of, universe_of}
 use Rattle.dep_model.proofs.SchemeLemmas.{members_below-none, members_below-one_more, members_below-no_more}
 use Rattle.min_cover.specs.Members.{IsLeftReduced}
 use Rattle.cover_accounts.specs.declared.shortening.ShortMember.{ShortMember}
@@ -34,7 +34,7 @@ loop-a-init c =
       members = λ firsts before.
           let none : firsts ++ members_at c.args.position x (members_below 0 z) ≡ firsts =
           ap (λ (l : List ℕ). firsts ++ members_at c.args.position x l) (members_below-none z) ∙ append-nil firsts in
-          subst (λ (ps : List Placed). AreShortMembers (width_of c.args.schema.now) (theory_of c.args.schema.now) ps (shortened_list c.args.members.now.items)) (sym none) before;
+          subst (λ (ps : List Placed). AreShortMembers (width_of c.args.theory.now) (theory_of c.args.theory.now) ps (shortened_list c.args.members.now.items)) (sym none) before;
       within = λ all. all;
     }
 
@@ -50,7 +50,7 @@ members-take k firsts x z a member =
 
 pub loop-a-preserved : goal.loop-a-preserved
 loop-a-preserved c =
-    let s = c.args.schema.now in
+    let s = c.args.theory.now in
     let n = width_of s in
     let k = c.args.position in
     let x = attributes c.args.lhs in
@@ -97,12 +97,12 @@ loop-a-preserved c =
 
 pub returns : goal.returns
 returns c =
-    let all : c.loop-a.a ≡ width_of c.args.schema.now = omega (arith, c.loop-a-test.false, c.loop-a.auto.a-end, c.width-a-end.ensures.count) in
+    let all : c.loop-a.a ≡ width_of c.args.theory.now = omega (arith, c.loop-a-test.false, c.loop-a.auto.a-end, c.width-a-end.ensures.count) in
     let x = attributes c.args.lhs in
     let z = difference (attributes c.args.rhs) x in
     record {
       members = λ firsts before.
-          subst (λ (n : ℕ). AreShortMembers (width_of c.args.schema.now) (theory_of c.args.schema.now) (firsts ++ members_at c.args.position x (members_below n z)) (shortened_list c.loop-a.members.items)) all
+          subst (λ (n : ℕ). AreShortMembers (width_of c.args.theory.now) (theory_of c.args.theory.now) (firsts ++ members_at c.args.position x (members_below n z)) (shortened_list c.loop-a.members.items)) all
           (c.loop-a.invariant.members firsts before);
       within = c.loop-a.invariant.within;
     }

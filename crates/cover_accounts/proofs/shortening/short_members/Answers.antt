@@ -7,16 +7,16 @@ use Rattle.std.proofs.lemmas.Grind.{flat_map-append}
 use Rattle.dep_model.specs.declared.dep.Dep.{Dep}
 use Rattle.dep_model.specs.declared.dep.Dep.TheVariants.{Fd}
 use Rattle.dep_model.specs.Deps.{dependency_of, IsDepWithin}
-use Rattle.dep_model.specs.Schemas.{width_of, theory_of, universe_of}
+use Rattle.dep_model.specs.Theories.{width_of, theory_of, universe_of}
 use Rattle.cover_accounts.specs.declared.thinning.PlacedDep.{PlacedDep}
 use Rattle.cover_accounts.specs.Steps.{Placed, AreShortMembers, placed, placed_members, place_of, places_of, shortened_list}
 use Rattle.cover_accounts.proofs.shortening.short_members.Goals.{In-Fd, in-Fd+in_ok-add_members, in_default}
 use Rattle.cover_accounts.proofs.shortening.short_members.Goals as goal
 
 -- the sides of a functional dependency lie within the universe
-sides_within : (c : In-Fd) → IsDepWithin (universe_of c.args.schema.now) (Fd c.in-Fd.lhs c.in-Fd.rhs)
+sides_within : (c : In-Fd) → IsDepWithin (universe_of c.args.theory.now) (Fd c.in-Fd.lhs c.in-Fd.rhs)
 sides_within c =
-    subst (λ (d : Dep). IsDepWithin (universe_of c.args.schema.now) d) c.in-Fd.is (c.requires.within c.loop-one.one-index _ c.loop-one-test.true)
+    subst (λ (d : Dep). IsDepWithin (universe_of c.args.theory.now) d) c.in-Fd.is (c.requires.within c.loop-one.one-index _ c.loop-one-test.true)
 
 pub add_members-requires-clause-lhs : goal.add_members-requires-clause-lhs
 add_members-requires-clause-lhs c = (sides_within (goal.at.add_members-requires-clause-lhs c).In-Fd).0
@@ -26,7 +26,7 @@ add_members-requires-clause-rhs c = (sides_within (goal.at.add_members-requires-
 
 pub loop-one-preserved : goal.loop-one-preserved
 loop-one-preserved c =
-    let s = c.args.schema.now in
+    let s = c.args.theory.now in
     let n = width_of s in
     let ds = theory_of s in
     let list = c.args.list.now in

@@ -1,43 +1,47 @@
--- What is left to prove of `cover_steps`: what `part_from` requires of the multivalued dependencies, and its
--- clauses.
+-- What is left to prove of `cover_steps`: what `thinned_members` and `part_from` require, and its clauses.
 use Rattle.std.proofs.Common.{◌≡◌, List, [], ◌++◌, length, map, drop, sym, ap, subst, ◌∙◌, arith}
 use Rattle.std.specs.Prelude.{All, filter}
 use Rattle.std.specs.List.{flat_map}
 use Rattle.attr_sets.specs.Attributes.{below}
 use Rattle.std.proofs.lemmas.List.Elements.{All-map}
 use Rattle.dep_model.specs.declared.dep.Dep.{Dep}
-use Rattle.dep_model.specs.declared.schema.Schema.{Schema}
+use Rattle.dep_model.specs.Theories.{Theory}
 use Rattle.dep_model.specs.Dependencies.{Dependency, IsWithin}
 use Rattle.dep_model.specs.Deps.{dependencies_of, IsDepWithin}
-use Rattle.dep_model.specs.Schemas.{width_of, theory_of, deps_of}
+use Rattle.dep_model.specs.Theories.{width_of, theory_of, deps_of}
 use Rattle.dep_model.proofs.DepLemmas.{dependencies_all-from}
 use Rattle.min_cover.specs.Covers.{IsFixedWholeCover}
 use Rattle.min_cover.proofs.CoverLemmas.{fixed_is_whole, whole_is_minimal}
 use Rattle.cover_accounts.specs.declared.shortening.ShortMember.{ShortMember}
 use Rattle.cover_accounts.specs.declared.thinning.PlacedDep.{PlacedDep}
 use Rattle.cover_accounts.specs.Steps.{AreCoverSteps, AreShortMembers, IsThinnedInto, Placed, without_positions, places_of, placed_from, placed_members, is_multivalued, short_of, shortened_list}
-use Rattle.cover_accounts.specs.Gathering.{IsPlacedWithin, deps_of_places}
+use Rattle.cover_accounts.specs.Gathering.{IsMemberWithin, IsPlacedWithin, deps_of_places}
 use Rattle.cover_accounts.proofs.PlaceLemmas.{positions_gone, stands_after}
 use Rattle.cover_accounts.proofs.MemberLemmas.{steps_cover}
 use Rattle.cover_accounts.proofs.steps.cover_steps.Goals.{In_ok-kept, In_ok-whole}
 use Rattle.cover_accounts.proofs.steps.cover_steps.Goals as goal
 
+pub thinned_members-requires : goal.thinned_members-requires
+thinned_members-requires c = record {
+  within = subst (λ (ms : List ShortMember). All (IsMemberWithin (below (width_of c.args.theory.now))) ms) (sym c.deref-2.ensures.value) c.in_ok-members.ensures.within;
+}
+
 pub part_from-requires-clause-within : goal.part_from-requires-clause-within
 part_from-requires-clause-within c =
-    let n = width_of c.args.schema.now in
+    let n = width_of c.args.theory.now in
     let list_in : All (IsPlacedWithin (below n)) c.deref-3.result.now =
     subst (λ (ps : List PlacedDep). All (IsPlacedWithin (below n)) ps) (sym c.deref-3.ensures.value) c.in_ok-list.ensures.within in
     let all = c.in_ok-add_multivalued.ensures.within n c.in_ok-rest.ensures.within list_in in
     rw (c.width.ensures.count, c.deref-4.ensures.value) all
 
 -- the steps, and the cover that they leave
-record IsAccount (s : Schema) (members : List ShortMember) (gone kept : List PlacedDep) : Type 0 where
+record IsAccount (s : Theory) (members : List ShortMember) (gone kept : List PlacedDep) : Type 0 where
   steps : AreCoverSteps (width_of s) (theory_of s) (shortened_list members) (places_of gone)
   left : without_positions steps.whole ≡ dependencies_of (deps_of_places kept)
 
-account : (c : In_ok-kept) → IsAccount c.args.schema.now c.in_ok-members.members.items c.part_from.new.gone.items c.in_ok-kept.kept.items
+account : (c : In_ok-kept) → IsAccount c.args.theory.now c.in_ok-members.members.items c.part_from.new.gone.items c.in_ok-kept.kept.items
 account c =
-    let s = c.args.schema.now in
+    let s = c.args.theory.now in
     let n = width_of s in
     let ds = theory_of s in
     let list = c.in_ok-list.list.items in
@@ -74,18 +78,18 @@ account c =
 left_is : (c : In_ok-whole) → c.in_ok-whole.whole.items ≡ deps_of_places c.in_ok-kept.kept.items
 left_is c = c.in_ok-whole.ensures.deps ∙ ap (λ (ps : List PlacedDep). deps_of_places ps) c.deref-5.ensures.value
 
-fixed : (s : Schema) (members : List ShortMember) (gone kept : List PlacedDep) (whole : List Dep) → IsAccount s members gone kept
+fixed : (s : Theory) (members : List ShortMember) (gone kept : List PlacedDep) (whole : List Dep) → IsAccount s members gone kept
     → whole ≡ deps_of_places kept → IsFixedWholeCover (width_of s) (theory_of s) (dependencies_of whole)
 fixed s members gone kept whole is left =
     subst (λ (ds : List Dependency). IsFixedWholeCover (width_of s) (theory_of s) ds) (is.left ∙ ap (λ (ds : List Dep). dependencies_of ds) (sym left))
     (steps_cover (width_of s) (theory_of s) _ _ is.steps)
 
-theory_within : (s : Schema) → All (IsWithin (below (width_of s))) (theory_of s)
+theory_within : (s : Theory) → All (IsWithin (below (width_of s))) (theory_of s)
 theory_within s = dependencies_all-from (IsWithin (below (width_of s))) (deps_of s) s.valid.deps_within
 
 pub returns : goal.returns
 returns c =
-    let s = c.args.schema.now in
+    let s = c.args.theory.now in
     let n = width_of s in
     let whole = dependencies_of c.in_ok-whole.whole.items in
     let told = account (goal.at.returns c).In_ok-kept in

@@ -2,7 +2,7 @@
 use Rattle.std.proofs.Common.{◌≡◌, List, map, sym, ap, ◌∙◌}
 use Rattle.std.proofs.lemmas.List.Elements.{All-map}
 use Rattle.attr_sets.specs.Attributes.{below}
-use Rattle.dep_model.specs.Schemas.{width_of}
+use Rattle.dep_model.specs.Theories.{width_of}
 use Rattle.cover_accounts.specs.declared.thinning.PlacedDep.{PlacedDep}
 use Rattle.cover_accounts.specs.Steps.{places_of, short_of, shortened_list}
 use Rattle.cover_accounts.specs.Gathering.{IsPlacedWithin, short_dep}
@@ -11,7 +11,7 @@ use Rattle.cover_accounts.proofs.steps.thinned_members.Goals as goal
 
 pub part_from-requires-clause-within : goal.part_from-requires-clause-within
 part_from-requires-clause-within c =
-    let n = width_of c.args.schema.now in
+    let n = width_of c.args.theory.now in
     rw (c.width.ensures.count, c.deref.ensures.value, c.in_ok-list.ensures.list)
     (All-map (IsPlacedWithin (below n)) short_dep c.args.members.now c.requires.within)
 

@@ -7,7 +7,7 @@ use Rattle.dep_model.specs.declared.dep.Dep.{Dep}
 use Rattle.dep_model.specs.declared.dep.Dep.TheVariants.{Fd}
 use Rattle.dep_model.specs.Dependencies.{Dependency}
 use Rattle.dep_model.specs.Deps.{dependency_of, dependencies_of, IsDepWithin}
-use Rattle.dep_model.specs.Schemas.{theory_of, deps_of, universe_of}
+use Rattle.dep_model.specs.Theories.{theory_of, deps_of, universe_of}
 use Rattle.cover_accounts.specs.declared.thinning.PlacedDep.{PlacedDep}
 use Rattle.cover_accounts.specs.Steps.{Placed, placed, placed_from, place_of}
 use Rattle.cover_accounts.specs.Gathering.{IsPlacedWithin}
@@ -32,7 +32,7 @@ placed-more items ds k same low =
 
 pub loop-k-preserved : goal.loop-k-preserved
 loop-k-preserved c =
-    let s = c.args.schema.now in
+    let s = c.args.theory.now in
     let k = c.loop-k.k in
     let items = c.deps-dep-items.result.now in
     let same = c.deps-dep-items.ensures.deps in
@@ -46,7 +46,7 @@ loop-k-preserved c =
 
 pub returns : goal.returns
 returns c =
-    let s = c.args.schema.now in
+    let s = c.args.theory.now in
     let past : length (theory_of s) ≤ c.loop-k.k = omega (arith, c.loop-k-test.false, ap (λ (es : List Dep). length es) c.deps-dep-items.ensures.deps, length-map (deps_of s) dependency_of) in
     record {
       placed = c.loop-k.invariant.placed ∙ ap (λ (ds : List Dependency). placed_from 0 ds) (take_all c.loop-k.k (theory_of s) past);

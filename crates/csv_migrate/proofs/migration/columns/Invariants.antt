@@ -1,7 +1,7 @@
 -- What the loop of `columns` keeps: `names`.
 use Rattle.std.proofs.Common.{◌≡◌, take}
 use Rattle.attr_sets.specs.Sets.{attributes}
-use Rattle.dep_model.specs.Schemas.{names_of}
+use Rattle.schema_model.specs.Schemas.{names_of}
 use Rattle.schema_printer.specs.Printing.{members_from}
 use Rattle.csv_migrate.proofs.migration.columns.Given as goal
 

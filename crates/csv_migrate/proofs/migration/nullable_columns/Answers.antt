@@ -3,7 +3,7 @@
 use Rattle.std.proofs.Common.{Bool, List, [], ◌∷◌, ◌++◌, sym, ap₂, ◌∙◌}
 use Rattle.attr_sets.specs.Sets.{attributes}
 use Rattle.attr_sets.proofs.AttributesLemmas.{same_at}
-use Rattle.dep_model.specs.Schemas.{nullable_of}
+use Rattle.schema_model.specs.Schemas.{nullable_of}
 use Rattle.dep_model.proofs.SchemeLemmas.{members_below-none}
 use Rattle.csv_migrate.proofs.ProjectionLemmas.{flag_taken, flag_passed}
 use Rattle.csv_migrate.proofs.migration.nullable_columns.Goals as goal

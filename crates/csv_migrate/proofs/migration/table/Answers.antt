@@ -1,7 +1,7 @@
 -- What is left to prove of `table`: its clauses `value` and `even`, by `MigrationLemmas` and
 -- `ProjectionLemmas`.
 use Rattle.attr_sets.specs.Sets.{attributes}
-use Rattle.dep_model.specs.Schemas.{names_of, width_of}
+use Rattle.schema_model.specs.Schemas.{names_of, width_of}
 use Rattle.row_groups.specs.Interning.{groups_of, firsts_of}
 use Rattle.csv_migrate.proofs.ProjectionLemmas.{table_rows, table_even}
 use Rattle.csv_migrate.proofs.MigrationLemmas.{same_table}

@@ -1,6 +1,6 @@
 -- What is left to prove of `tables`: its clause `joins`, by `MigrationLemmas`.
 use Rattle.std.proofs.Common.{List, sym, subst}
-use Rattle.dep_model.specs.Schemas.{width_of, theory_of}
+use Rattle.schema_model.specs.Schemas.{width_of, theory_of}
 use Rattle.plans.specs.Plans.{plan_of}
 use Rattle.named_tables.specs.Tables.{TableValue}
 use Rattle.csv_migrate.specs.Migration.{JoinIs}

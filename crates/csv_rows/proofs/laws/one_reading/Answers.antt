@@ -4,7 +4,7 @@ use Rattle.csv_rows.specs.Columns.{columns_of_header, IsHeaderOf}
 use Rattle.csv_rows.specs.Quotes.{open_record}
 use Rattle.csv_rows.specs.Records.{records_of}
 use Rattle.csv_rows.proofs.UniqueRows.{table_same, whole_header_same, part_header_same}
-use Rattle.dep_model.specs.Schemas.{names_of, width_of}
+use Rattle.schema_model.specs.Schemas.{names_of, width_of}
 use Rattle.csv_rows.proofs.laws.one_reading.Goals as goal
 
 pub returns : goal.returns

@@ -1,7 +1,7 @@
 -- What the loop of `print_rows` keeps: `HasWritten`.
 use Rattle.std.proofs.Common.{Some, take}
 use Rattle.csv_text.specs.Rows.{HasWritten, rows_text}
-use Rattle.dep_model.specs.Schemas.{names_of}
+use Rattle.schema_model.specs.Schemas.{names_of}
 use Rattle.csv_rows.proofs.printing.print_rows.Given as goal
 
 -- the header and the rows so far are written

@@ -1,6 +1,6 @@
 -- What the loop of `read_body` keeps: `within_limit` and `progress`; and by what it ends.
 use Rattle.std.proofs.Common.{◌≤◌, ◌-◌, ℕ, List, length}
-use Rattle.dep_model.specs.Schemas.{width_of}
+use Rattle.schema_model.specs.Schemas.{width_of}
 use Rattle.csv_rows.specs.Records.{HasLeft}
 use Rattle.csv_rows.specs.Columns.{IsHeader}
 use Rattle.csv_rows.proofs.ReadingLemmas.{Progress}

@@ -1,7 +1,7 @@
 -- What the loop of `read_closed_row` keeps: `takes`.
 use Rattle.std.proofs.Common.{ℕ, List}
 use Rattle.csv.specs.Records.{fields_of}
-use Rattle.dep_model.specs.Schemas.{width_of}
+use Rattle.schema_model.specs.Schemas.{width_of}
 use Rattle.csv_rows.specs.Columns.{IsHeader}
 use Rattle.csv_rows.proofs.ReadingLemmas.{Takes}
 use Rattle.csv_rows.proofs.reading.read_closed_row.Given as goal

@@ -1,8 +1,8 @@
 -- What is left to prove of `type_of`: its clause `column`, of an attribute of the schema.
 use Rattle.std.proofs.Common.{sym}
 use Rattle.std.proofs.lemmas.Option.{get_or_from_slice_get}
-use Rattle.dep_model.specs.Schemas.{types_of}
-use Rattle.dep_model.specs.declared.column_type.ColumnType.TheVariants.{Text}
+use Rattle.schema_model.specs.Schemas.{types_of}
+use Rattle.schema_model.specs.declared.column_type.ColumnType.TheVariants.{Text}
 use Rattle.csv_rows.proofs.types.type_of.Goals as goal
 
 pub returns-then-attribute-width : goal.returns-then-attribute-width

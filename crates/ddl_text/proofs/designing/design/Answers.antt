@@ -5,7 +5,7 @@ use Rattle.std.specs.Prelude.{All}
 use Rattle.attr_sets.specs.declared.set.AttrSet.{AttrSet}
 use Rattle.attr_sets.specs.Attributes.{below, IsSubset}
 use Rattle.attr_sets.specs.Sets.{attributes}
-use Rattle.dep_model.specs.Schemas.{width_of}
+use Rattle.schema_model.specs.Schemas.{width_of}
 use Rattle.ddl_text.proofs.DesignLemmas.{design_earlier, design_keys, design_other_keys, design_references}
 use Rattle.ddl_text.proofs.designing.design.Goals as goal
 

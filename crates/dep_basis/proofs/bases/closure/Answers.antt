@@ -2,7 +2,7 @@
 use Rattle.dep_basis.proofs.bases.closure.Goals as goal
 
 pub closure_by-requires-clause-deps : goal.closure_by-requires-clause-deps
-closure_by-requires-clause-deps c = rw (c.deps.ensures.deps, c.width.ensures.count) c.args.schema.now.valid.deps_within
+closure_by-requires-clause-deps c = rw (c.deps.ensures.deps, c.width.ensures.count) c.args.theory.now.valid.deps_within
 
 pub returns : goal.returns
 returns c = record { closure = rw (c.deps.ensures.deps, c.width.ensures.count) at c.closure_by.ensures.closure }

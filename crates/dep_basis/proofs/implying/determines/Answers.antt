@@ -17,7 +17,7 @@ returns-then-is_functional c =
     record {
       implied = subst (λ (ds : List Dependency). IsTrue c.follows.result ↔ Implies n ds (fd x y))
           (c.is_functional.ensures.functional.0 c.if-is_functional.true)
-          (c.follows.ensures.implied n c.requires.deps c.requires.lhs c.requires.rhs);
+          (c.follows.ensures.implied.over n c.requires.deps c.requires.lhs c.requires.rhs);
     }
 
 pub returns : goal.returns

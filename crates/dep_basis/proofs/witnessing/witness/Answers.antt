@@ -1,19 +1,18 @@
--- What is left to prove of `witness`: its clauses `rows` and `typed`, by `zeros_on-all` and
--- `two_tuples-typed`.
-use Rattle.std.proofs.Common.{◌≡◌, ℕ, ◌∙◌, [], ◌∷◌, sym, ap, subst}
+-- What is left to prove of `witness`: its clause `rows`, by `zeros_on-all`.
+use Rattle.std.proofs.Common.{◌≡◌, ℕ, ◌∙◌, [], ◌∷◌, sym, ap}
 use Rattle.std.proofs.lemmas.Bool.{lt-ltb}
 use Rattle.attr_sets.specs.Sets.{attributes}
 use Rattle.dep_model.specs.Tuples.{Tuple, Relation}
 use Rattle.dep_model.specs.TwoTuples.{all_zeros, zeros_on, two_tuples}
-use Rattle.dep_model.specs.Schemas.{width_of, types_of, TypedFor}
+use Rattle.dep_model.specs.Theories.{width_of}
 use Rattle.attr_sets.proofs.AttributesLemmas.{same_at}
 use Rattle.dep_model.proofs.TwoTupleLemmas.{two_tuples-is}
-use Rattle.dep_basis.proofs.WitnessLemmas.{zeros_on-all, two_tuples-typed}
+use Rattle.dep_basis.proofs.WitnessLemmas.{zeros_on-all}
 use Rattle.dep_basis.proofs.witnessing.witness.Goals as goal
 
 pub returns : goal.returns
 returns c =
-    let n = width_of c.args.schema.now in
+    let n = width_of c.args.theory.now in
     let first : Tuple = c.in_ok-first.first in
     let second : Tuple = c.in_ok-second.second in
     let first_is : first ≡ zeros_on c.width-width.result (attributes c.full.result) = c.in_ok-first.ensures.row in
@@ -27,5 +26,4 @@ returns c =
     ap (λ (t : Tuple). t ∷ second ∷ []) whole ∙ ap (λ (t : Tuple). all_zeros n ∷ t ∷ []) rest ∙ sym (two_tuples-is n (attributes c.args.agreement)) in
     record {
       rows = rows;
-      typed = subst (λ (r : Relation). TypedFor c.args.schema.now r) (sym rows) (two_tuples-typed n (types_of c.args.schema.now) (attributes c.args.agreement) c.args.schema.now.typed.one_each);
     }

@@ -14,7 +14,7 @@ use Rattle.derivation.proofs.builders.split_outside.Goals as goal
 
 pub returns-clause-concludes : goal.returns-clause-concludes
 returns-clause-concludes c v p from_lhs from_v first second =
-    let s = c.args.schema.now in
+    let s = c.args.theory.now in
     let t = tree_of c.args.first.value in
     let u = tree_of c.args.second.value in
     let x = attributes c.args.lhs in

@@ -2,7 +2,7 @@
 -- `seek` and `seek_pair` require, by `nodes-pos` and `part-nodes`.
 use Rattle.std.proofs.Common.{◌≡◌, ◌<◌, ap, sym, ◌∙◌, arith}
 use Rattle.std.specs.Prelude.{◌^◌}
-use Rattle.dep_model.specs.declared.schema.Schema.{Schema}
+use Rattle.dep_model.specs.Theories.{Theory}
 use Rattle.dep_model.specs.Dependencies.{Dependency}
 use Rattle.dep_model.specs.Deps.{dependency_of}
 use Rattle.derivation.specs.declared.shortening.Sought.{Sought}
@@ -22,7 +22,7 @@ pair_whole : (t : _) (c : In-Pair t) → tree_of c.args.deriv.value ≡ pair (pa
 pair_whole t c = ap tree_of (sym (c.replace.ensures.value ∙ c.deref_mut.ensures.value) ∙ c.in-Pair.is)
 
 -- what is found in a tree is no larger
-found_within_limit : (s : Schema) (t : Tree) (d : Dependency) (r : Sought) → nodes t < 2 ^ 32 → IsSought s t d r → NodesFit r
+found_within_limit : (s : Theory) (t : Tree) (d : Dependency) (r : Sought) → nodes t < 2 ^ 32 → IsSought s t d r → NodesFit r
 found_within_limit s t d (Found b) within_limit found = omega (arith, within_limit, part-nodes (tree_of b.value) t found.part)
 found_within_limit s t d (Whole whole) within_limit found = let same : nodes (tree_of whole.deriv.value) ≡ nodes t = ap nodes found.0.same in omega (arith, within_limit, same)
 
@@ -42,18 +42,18 @@ seek-right-requires t c =
 pub seek_pair-requires-clause-left_fits_u32 : goal.seek_pair-requires-clause-left_fits_u32
 seek_pair-requires-clause-left_fits_u32 t c =
     let all = ap nodes (pair_whole t ((goal.at.seek_pair-requires-clause-left_fits_u32 t c).In-Pair)) in
-    found_within_limit c.args.schema.now (tree_of c.in-Pair.first.value) (dependency_of c.args.sought) c.seek-left.result (omega (arith, all, c.requires.fits_u32)) c.seek-left.ensures.sought
+    found_within_limit c.args.theory.now (tree_of c.in-Pair.first.value) (dependency_of c.args.sought) c.seek-left.result (omega (arith, all, c.requires.fits_u32)) c.seek-left.ensures.sought
 
 pub seek_pair-requires-clause-right_fits_u32 : goal.seek_pair-requires-clause-right_fits_u32
 seek_pair-requires-clause-right_fits_u32 t c =
     let all = ap nodes (pair_whole t ((goal.at.seek_pair-requires-clause-right_fits_u32 t c).In-Pair)) in
-    found_within_limit c.args.schema.now (tree_of c.in-Pair.second.value) (dependency_of c.args.sought) c.seek-right.result (omega (arith, all, c.requires.fits_u32)) c.seek-right.ensures.sought
+    found_within_limit c.args.theory.now (tree_of c.in-Pair.second.value) (dependency_of c.args.sought) c.seek-right.result (omega (arith, all, c.requires.fits_u32)) c.seek-right.ensures.sought
 
 pub returns-in-Leaf : goal.returns-in-Leaf
 returns-in-Leaf t c =
     let whole = ap tree_of (sym (c.replace.ensures.value ∙ c.deref_mut.ensures.value) ∙ c.in-Leaf.is) in
     record {
-      sought = rw whole (c.seek_root.ensures.sought c.args.schema.now (leaf (leaf_of c.in-Leaf.rule)) c.conclude_leaf.ensures.concluded (λ u below proves. below));
+      sought = rw whole (c.seek_root.ensures.sought c.args.theory.now (leaf (leaf_of c.in-Leaf.rule)) c.conclude_leaf.ensures.concluded (λ u below proves. below));
     }
 
 pub returns-in-Step : goal.returns-in-Step
@@ -64,5 +64,5 @@ returns-in-Step t c = record {
 pub returns-in-Pair : goal.returns-in-Pair
 returns-in-Pair t c = record {
   sought = rw (pair_whole t ((goal.at.returns-in-Pair t c).In-Pair))
-      (c.seek_pair.ensures.sought c.args.schema.now (tree_of c.in-Pair.first.value) (tree_of c.in-Pair.second.value) c.seek-left.ensures.sought c.seek-right.ensures.sought);
+      (c.seek_pair.ensures.sought c.args.theory.now (tree_of c.in-Pair.first.value) (tree_of c.in-Pair.second.value) c.seek-left.ensures.sought c.seek-right.ensures.sought);
 }

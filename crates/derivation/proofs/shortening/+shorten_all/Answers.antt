@@ -29,7 +29,7 @@ shorten_all-right-requires t c =
 
 pub least_of-requires-in-Pair : goal.least_of-requires-in-Pair
 least_of-requires-in-Pair t c =
-    let s = c.args.schema.now in
+    let s = c.args.theory.now in
     let first = c.shorten_all-left in
     let second = c.shorten_all-right in
     let all = ap nodes (pair_whole t ((goal.at.least_of-requires-in-Pair t c).In-Pair)) in
@@ -39,7 +39,7 @@ least_of-requires-in-Pair t c =
 
 pub returns-in-Step : goal.returns-in-Step
 returns-in-Step t c =
-    let s = c.args.schema.now in
+    let s = c.args.theory.now in
     let from = c.shorten_all-from in
     let made = c.conclude_step.ensures.concluded (tree_of from.result.deriv.value) (as_concluded s (tree_of c.in-Step.premise.value) from.result from.ensures.shortened) in
     record {
@@ -49,7 +49,7 @@ returns-in-Step t c =
 
 pub returns-in-Pair : goal.returns-in-Pair
 returns-in-Pair t c =
-    let s = c.args.schema.now in
+    let s = c.args.theory.now in
     let rule = pair_of c.in-Pair.rule in
     let first = c.shorten_all-left in
     let second = c.shorten_all-right in

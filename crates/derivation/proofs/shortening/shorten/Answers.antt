@@ -9,6 +9,6 @@ use Rattle.derivation.proofs.shortening.shorten.Goals as goal
 
 pub returns-in-Ok-clause-level_bound : goal.returns-in-Ok-clause-level_bound
 returns-in-Ok-clause-level_bound c =
-    let P : Deriv → Type 0 = λ d. Proves c.args.schema.now (tree_of d) (dependency_of c.in-Ok.dep) in
+    let P : Deriv → Type 0 = λ d. Proves c.args.theory.now (tree_of d) (dependency_of c.in-Ok.dep) in
     let least = c.least_of.ensures.least (tree_of c.args.deriv.value) (record { same = refl; only = subst P c.deref.ensures c.in-Ok.ensures.proves }) in
     omega (arith, c.shorten_all.ensures.shortened.level_bound, part-depth (tree_of c.least_of.result.deriv.value) (tree_of c.args.deriv.value) least.part)

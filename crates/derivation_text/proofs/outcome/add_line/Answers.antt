@@ -2,10 +2,10 @@
 use Rattle.std.proofs.Common.{◌≡◌, List, Option, Some, None, Result, Ok, Err, sym, subst}
 use Rattle.std.specs.Prelude.{All}
 use Rattle.dep_model.specs.declared.dep.Dep.{Dep}
-use Rattle.dep_model.specs.declared.schema.Schema.{Schema}
+use Rattle.schema_model.specs.Schemas.{Schema}
 use Rattle.dep_model.specs.Dependencies.{Dependency, left_of, right_of, IsWithin}
 use Rattle.dep_model.specs.Deps.{dependency_of, dependencies_of, IsDepWithin}
-use Rattle.dep_model.specs.Schemas.{universe_of}
+use Rattle.schema_model.specs.Schemas.{universe_of}
 use Rattle.derivation.specs.declared.fault.FaultKind.{FaultKind}
 use Rattle.derivation_grammar.specs.Derivations.{outcome_of_line}
 use Rattle.derivation_grammar.proofs.AddedLines.{of_attributes}

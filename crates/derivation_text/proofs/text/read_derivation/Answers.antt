@@ -9,7 +9,7 @@ use Rattle.dep_model.proofs.FailureLemmas.{refused_is}
 use Rattle.dep_model.specs.declared.dep.Dep.{Dep}
 use Rattle.dep_model.specs.Dependencies.{IsWithin}
 use Rattle.dep_model.specs.Deps.{dependency_of, dependencies_of}
-use Rattle.dep_model.specs.Schemas.{universe_of}
+use Rattle.schema_model.specs.Schemas.{universe_of}
 use Rattle.proof_text.proofs.TextLemmas.{line_within}
 use Rattle.derivation_grammar.specs.Texts.{read_lines, read_derivation}
 use Rattle.derivation_grammar.proofs.Certificates.{derived_is_implied}

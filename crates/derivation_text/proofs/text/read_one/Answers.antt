@@ -4,7 +4,7 @@ use Rattle.std.specs.Prelude.{All}
 use Rattle.std.proofs.lemmas.List.Elements.{All-push}
 use Rattle.dep_model.specs.Dependencies.{IsWithin}
 use Rattle.dep_model.specs.Deps.{dependency_of, dependencies_of}
-use Rattle.dep_model.specs.Schemas.{universe_of}
+use Rattle.schema_model.specs.Schemas.{universe_of}
 use Rattle.derivation_text.proofs.text.read_one.Goals as goal
 
 pub returns-in_ok-add_line-in-Ok-clause-before : goal.returns-in_ok-add_line-in-Ok-clause-before

@@ -2,7 +2,7 @@
 use Rattle.std.proofs.Common.{◌≡◌, ℕ, List, [], subst, sym, ◌∙◌}
 use Rattle.std.proofs.lemmas.Option.{get_or_from_slice_get}
 use Rattle.std.specs.Prelude.{IfOk}
-use Rattle.dep_model.specs.Schemas.{names_of}
+use Rattle.schema_model.specs.Schemas.{names_of}
 use Rattle.design_picture.specs.Places.{attribute_columns, name_columns}
 use Rattle.design_picture.proofs.sizes.attribute_columns.Goals as goal
 

@@ -1,5 +1,5 @@
 -- What is left to prove of `of_schemas`: its clause `response`.
-use Rattle.dep_model.specs.declared.schema.Schema.{Schema}
+use Rattle.schema_model.specs.Schemas.{Schema}
 use Rattle.desk_inputs.specs.FileKinds.{FileStops, IsFile}
 use Rattle.desk_inputs.specs.Inputs.{schema_file}
 use Rattle.desk_covers.specs.Sameness.{ChecksSame}

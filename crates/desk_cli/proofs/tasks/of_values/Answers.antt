@@ -1,7 +1,7 @@
 -- What is left to prove of `of_values`: its clauses `reads` and `response`.
 use Rattle.std.proofs.Common.{ℕ, List, [], ◌∷◌, Ok, Err, Result, inl}
 use Rattle.dep_model.specs.Tuples.{Relation}
-use Rattle.dep_model.specs.declared.schema.Schema.{Schema}
+use Rattle.schema_model.specs.Schemas.{Schema}
 use Rattle.desk_cli.specs.Performs.{WithValues}
 use Rattle.desk_inputs.specs.FileKinds.{FileStops, IsFile, WithFile}
 use Rattle.desk_inputs.specs.Readings.{Reading}

@@ -1,5 +1,5 @@
 -- What is left to prove of `explained_cover`: its clause.
-use Rattle.std.proofs.Common.{◌≡◌, List, ℕ, ◌++◌, refl, ap, ◌∙◌, inl}
+use Rattle.std.proofs.Common.{◌≡◌, List, ℕ, ◌++◌, refl, sym, subst, ap, ◌∙◌, inl}
 use Rattle.cover_accounts.specs.declared.shortening.ShortMember.{ShortMember}
 use Rattle.cover_accounts.specs.declared.thinning.PlacedDep.{PlacedDep}
 use Rattle.cover_accounts.specs.Steps.{places_of, shortened_list}
@@ -9,7 +9,15 @@ use Rattle.schema_printer.specs.Printing.{schema_text}
 use Rattle.desk_responses.specs.ResponseValues.{text_only}
 use Rattle.desk_responses.specs.declared.status.Status.TheVariants.{Yes}
 use Rattle.desk_covers.specs.CoverReasons.{all_gone_text, members_text}
+use Rattle.std.specs.Prelude.{All}
+use Rattle.dep_model.specs.Deps.{IsDepWithin}
+use Rattle.schema_model.specs.Schemas.{universe_of}
 use Rattle.desk_covers.proofs.cover_reasons.explained_cover.Goals as goal
+
+pub print_deps-requires : goal.print_deps-requires
+print_deps-requires c =
+    subst (λ (ds : List Dep). All (IsDepWithin (universe_of c.args.schema.now)) ds) (sym c.deref-3.ensures.value)
+    (rw (c.theory.ensures.theory) at c.in_ok-steps.ensures.within)
 
 pub returns : goal.returns
 returns c =
@@ -25,7 +33,7 @@ returns c =
     record {
       response = (
         text_only Yes plain,
-        (dependencies_of whole, c.in_ok-steps.ensures.fixed, c.in_ok-steps.ensures.minimal, c.in_ok-steps.ensures.whole_cover, refl),
+        (dependencies_of whole, (rw (c.theory.ensures.theory) at c.in_ok-steps.ensures.fixed), (rw (c.theory.ensures.theory) at c.in_ok-steps.ensures.minimal), (rw (c.theory.ensures.theory) at c.in_ok-steps.ensures.whole_cover), refl),
         inl (
           refl,
           (
@@ -33,7 +41,7 @@ returns c =
             record {
               members = shortened_list steps.members.items;
               gone = places_of steps.gone.items;
-              steps = c.in_ok-steps.ensures.steps;
+              steps = (rw (c.theory.ensures.theory) at c.in_ok-steps.ensures.steps);
               reads = reads;
             },
             c.with_text.ensures.says

@@ -9,7 +9,7 @@ use Rattle.attr_sets.specs.Attributes.{Attributes, difference}
 use Rattle.attr_sets.specs.Sets.{attributes}
 use Rattle.cover_accounts.specs.Steps.{shortened_of}
 use Rattle.dep_model.specs.Projections.{members_below}
-use Rattle.dep_model.specs.Schemas.{width_of}
+use Rattle.schema_model.specs.Schemas.{width_of}
 use Rattle.dep_model.proofs.SchemeLemmas.{members_below-none, members_below-one_more, members_below-no_more}
 use Rattle.desk_covers.specs.CoverReasons.{needless_text}
 use Rattle.desk_covers.proofs.cover_reasons.put_member.Goals as goal

@@ -2,7 +2,7 @@
 -- `stuck_within`.
 use Rattle.std.proofs.Common.{inl, inr, subst}
 use Rattle.attr_sets.specs.Sets.{attributes}
-use Rattle.dep_model.specs.Schemas.{width_of, theory_of}
+use Rattle.schema_model.specs.Schemas.{width_of, theory_of}
 use Rattle.split_forms.specs.Refusals.{IsRefusedSplit}
 use Rattle.split_forms.specs.declared.refusal.SplitRefusal.{SplitRefusal}
 use Rattle.desk_designs.specs.declared.decomposition.TheConstants.{MOST_SPLIT_SCHEMES}

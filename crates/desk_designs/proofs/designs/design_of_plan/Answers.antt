@@ -6,7 +6,7 @@ pub returns : goal.returns
 returns c = record {
   sound = record {
     ordered = scheme_sets c.in_ok-ordered.ordered;
-    order = c.in_ok-ordered.ensures.order;
+    order = rw (c.theory.ensures.theory) at c.in_ok-ordered.ensures.order;
     design = c.in_ok-design.ensures.design;
     keys_hold = c.in_ok-design.ensures.keys_hold;
     other_keys_hold = c.in_ok-design.ensures.other_keys_hold;

@@ -4,7 +4,7 @@ use Rattle.std.specs.Prelude.{IfOk, IfErr}
 use Rattle.attr_sets.specs.declared.set.AttrSet.{AttrSet}
 use Rattle.dep_model.specs.Plans.{schemes_of}
 use Rattle.dep_model.specs.Projections.{Covers}
-use Rattle.dep_model.specs.Schemas.{width_of}
+use Rattle.schema_model.specs.Schemas.{width_of}
 use Rattle.desk_designs.specs.Joins.{IsShownLossless, LossStops}
 use Rattle.desk_responses.specs.Responses.{ExitsAs}
 use Rattle.desk_designs.proofs.join.test_loss.Goals as goal

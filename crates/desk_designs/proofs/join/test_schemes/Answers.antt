@@ -5,7 +5,7 @@ use Rattle.std.specs.Prelude.{Vec}
 use Rattle.std.specs.declared.alloc.Global.{Global}
 use Rattle.chase_laws.specs.Answers.{IsClosedTableau, IsGaining}
 use Rattle.dep_model.specs.Plans.{schemes_of}
-use Rattle.dep_model.specs.Schemas.{width_of, theory_of}
+use Rattle.schema_model.specs.Schemas.{width_of, theory_of}
 use Rattle.dep_model.specs.Tuples.{Tuple, Relation}
 use Rattle.tableau_chase.specs.Chases.{IfLossy}
 use Rattle.tableau_chase.specs.declared.outcome.Chased.{Chased}
@@ -27,7 +27,7 @@ lossy_exit-requires-clause-numerals c =
     let s = c.args.schema.now in
     let plan = schemes_of c.args.schemes.now in
     let lossy = c.in-Ok-Lossy in
-    let closed = subst (λ (chased : Chased). IfLossy (IsClosedTableau (width_of s) (theory_of s) plan MOST_TABLEAU_ROWS) chased) lossy.field-0-is lossy.ensures.closed_tableau in
+    let closed = subst (λ (chased : Chased). IfLossy (IsClosedTableau (width_of s) (theory_of s) plan MOST_TABLEAU_ROWS) chased) lossy.field-0-is (rw (c.theory.ensures.theory) at lossy.ensures.closed_tableau) in
     subst HoldsNumerals (sym c.deref.ensures.value) (closed_numerals (width_of s) (theory_of s) c.args.schemes.now MOST_TABLEAU_ROWS lossy.rows.items (c.requires.within_limit) closed)
 
 pub returns-in-Ok-Lossy-clause-exit : goal.returns-in-Ok-Lossy-clause-exit
@@ -37,11 +37,11 @@ returns-in-Ok-Lossy-clause-exit c = λ response is.
     let ds = theory_of s in
     let plan = schemes_of c.args.schemes.now in
     let lossy = c.in-Ok-Lossy in
-    let closed = subst (λ (chased : Chased). IfLossy (IsClosedTableau n ds plan MOST_TABLEAU_ROWS) chased) lossy.field-0-is lossy.ensures.closed_tableau in
-    let gaining = subst (λ (chased : Chased). IfLossy (IsGaining n ds plan) chased) lossy.field-0-is lossy.ensures.gaining in
+    let closed = subst (λ (chased : Chased). IfLossy (IsClosedTableau n ds plan MOST_TABLEAU_ROWS) chased) lossy.field-0-is (rw (c.theory.ensures.theory) at lossy.ensures.closed_tableau) in
+    let gaining = subst (λ (chased : Chased). IfLossy (IsGaining n ds plan) chased) lossy.field-0-is (rw (c.theory.ensures.theory) at lossy.ensures.gaining) in
     inl (
-      lossy.ensures.within_limit,
-      (λ loses. not_both lossy.field-0 lossy.rows lossy.field-0-is (lossy.ensures.lossless.1 loses)),
+      rw (c.theory.ensures.theory) at lossy.ensures.within_limit,
+      (λ loses. not_both lossy.field-0 lossy.rows lossy.field-0-is ((rw (c.theory.ensures.theory) at lossy.ensures.lossless).1 loses)),
       (
         lossy.rows.items,
         shown_loss s plan lossy.rows.items closed gaining (closed_numerals n ds c.args.schemes.now MOST_TABLEAU_ROWS lossy.rows.items (c.requires.within_limit) closed),

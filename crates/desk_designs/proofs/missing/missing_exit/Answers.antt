@@ -1,6 +1,6 @@
 -- What is left to prove of `missing_exit`: its clause `says`, and what `print_refusal` requires.
 use Rattle.std.proofs.Common.{List, length, subst, sym}
-use Rattle.dep_model.specs.Schemas.{width_of}
+use Rattle.schema_model.specs.Schemas.{width_of}
 use Rattle.ddl_text.specs.declared.table.TableDesign.{TableDesign}
 use Rattle.missing_values.specs.Refusals.{IsWithin, refusal_text}
 use Rattle.desk_responses.specs.ResponseValues.{Says}

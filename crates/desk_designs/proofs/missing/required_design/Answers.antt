@@ -1,7 +1,7 @@
 -- What is left to prove of `required_design`: what `missing_exit` requires, and its clauses `never_missing` and
 -- `exit`, by what `missing_refusal` finds.
 use Rattle.std.proofs.Common.{List, None, Some, length, subst}
-use Rattle.dep_model.specs.Schemas.{nullable_of, width_of}
+use Rattle.schema_model.specs.Schemas.{nullable_of, width_of}
 use Rattle.ddl_text.specs.declared.table.TableDesign.{TableDesign}
 use Rattle.missing_values.specs.Missing.{FindsMissing, NeverMissing}
 use Rattle.missing_values.specs.Refusals.{IsWithin}

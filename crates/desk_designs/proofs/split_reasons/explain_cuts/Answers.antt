@@ -3,8 +3,8 @@
 use Rattle.std.proofs.Common.{◌≡◌, sym, subst, ◌∙◌, inl, inr, refl}
 use Rattle.dep_model.proofs.FailureLemmas.{refused_is}
 use Rattle.dep_model.specs.Plans.{schemes_of}
-use Rattle.dep_model.specs.Schemas.{width_of, theory_of}
-use Rattle.dep_model.specs.declared.schema.Schema.{Schema}
+use Rattle.schema_model.specs.Schemas.{width_of, theory_of}
+use Rattle.schema_model.specs.Schemas.{Schema}
 use Rattle.dep_model.specs.declared.form.Form.{Form}
 use Rattle.split_forms.specs.Refusals.{IsWithinLimits}
 use Rattle.split_forms.specs.Steps.{AreSplitSteps, cuttings_of}
@@ -29,19 +29,19 @@ explained_cuts-requires c =
     record {
       form = λ third. c.requires.form (sym is ∙ third);
       steps = subst (λ (f : Form). AreSplitSteps (width_of s) (theory_of s) f (cuttings_of steps.cuts.items) (schemes_of steps.schemes.items)) (sym is)
-          c.in-Ok.ensures.steps;
-      within_limits = subst (λ (f : Form). IsWithinLimits (width_of s) (theory_of s) f MOST_SPLIT_SCHEMES) (sym is) c.in-Ok.ensures.within_limits;
+          (rw (c.theory.ensures.theory) at c.in-Ok.ensures.steps);
+      within_limits = subst (λ (f : Form). IsWithinLimits (width_of s) (theory_of s) f MOST_SPLIT_SCHEMES) (sym is) (rw (c.theory.ensures.theory) at c.in-Ok.ensures.within_limits);
     }
 
 pub split_exit-requires : goal.split_exit-requires
 split_exit-requires c = record {
-  refused = (c.args.form, c.requires.form, refused_is _ _ _ c.in-Err-Refused.field-0-is c.in-Err-Refused.ensures.refused);
+  refused = (c.args.form, c.requires.form, refused_is _ _ _ c.in-Err-Refused.field-0-is (rw (c.theory.ensures.theory) at c.in-Err-Refused.ensures.refused));
 }
 
 pub returns-in-Err-Refused : goal.returns-in-Err-Refused
 returns-in-Err-Refused c = record {
   response = λ response is.
-      let refused = refused_is _ _ _ c.in-Err-Refused.field-0-is c.in-Err-Refused.ensures.refused in
+      let refused = refused_is _ _ _ c.in-Err-Refused.field-0-is (rw (c.theory.ensures.theory) at c.in-Err-Refused.ensures.refused) in
       let stops = c.split_exit.ensures.exit c.args.form refused response is in
       (response_value response, inl stops, inr (stops_not_yes c.args.schema.now c.args.form (response_value response) stops, refl));
 }

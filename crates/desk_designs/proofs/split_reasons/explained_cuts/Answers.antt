@@ -2,7 +2,7 @@
 use Rattle.std.proofs.Common.{◌≡◌, List, ℕ, ◌++◌, refl, ap, ◌∙◌, inl, inr}
 use Rattle.attr_sets.specs.declared.set.AttrSet.{AttrSet}
 use Rattle.dep_model.specs.Plans.{schemes_of}
-use Rattle.dep_model.specs.Schemas.{width_of, theory_of}
+use Rattle.schema_model.specs.Schemas.{width_of, theory_of}
 use Rattle.plan_printer.specs.Printing.{plan_text}
 use Rattle.schema_printer.specs.Spelling.{printed_names_of}
 use Rattle.split_forms.specs.declared.steps.SchemeCut.{SchemeCut}
@@ -19,7 +19,8 @@ plan_of_steps-requires c =
     let steps = c.args.steps.now in
     record {
       form = c.requires.form;
-      finished = steps_finish (width_of s) (theory_of s) steps.form (cuttings_of steps.cuts.items) (schemes_of steps.schemes.items) c.requires.steps;
+      finished = rw (c.theory.ensures.theory)
+          (steps_finish (width_of s) (theory_of s) steps.form (cuttings_of steps.cuts.items) (schemes_of steps.schemes.items) c.requires.steps);
     }
 
 pub print_reasons-requires : goal.print_reasons-requires
@@ -50,8 +51,8 @@ returns c =
               kept = c.in_ok-plan.ensures.kept;
             };
             within_limits = c.requires.within_limits;
-            lossless = c.in_ok-plan.ensures.lossless;
-            in_form = c.in_ok-plan.ensures.in_form;
+            lossless = rw (c.theory.ensures.theory) at c.in_ok-plan.ensures.lossless;
+            in_form = rw (c.theory.ensures.theory) at c.in_ok-plan.ensures.in_form;
           },
           refl,
         ),

@@ -9,6 +9,7 @@ use Rattle.dep_model.specs.declared.dep.Dep.{Dep}
 use Rattle.dep_model.specs.Deps.{dependencies_of}
 use Rattle.dep_model.specs.Plans.{schemes_of}
 use Rattle.plan_printer.specs.Printing.{plan_text}
+use Rattle.schema_model.specs.Schemas.{nullable_of}
 use Rattle.schema_printer.specs.Spelling.{printed_names_of}
 use Rattle.synthesis_3nf.specs.Groups.{left_sides_after}
 use Rattle.desk_responses.specs.ResponseValues.{text_only}
@@ -32,6 +33,13 @@ text_is names cover lefts all are =
     ap (told (schemes_of lefts)) (sym (length-map lefts attributes) ∙ ap (λ (xs : List Attributes). length xs) are)
     ∙ ap (λ (xs : List Attributes). told xs (length (left_sides_after [] ds))) are
 
+pub plan_of_steps-requires : goal.plan_of_steps-requires
+plan_of_steps-requires c = record {
+  steps = (nullable_of c.args.schema.now, rw (c.nullable.ensures.nullable) at c.in_ok-steps.ensures.steps);
+  minimal = c.in_ok-steps.ensures.minimal;
+  within = c.in_ok-steps.ensures.within;
+}
+
 pub print_reasons-requires : goal.print_reasons-requires
 print_reasons-requires c = record { kept = rw c.deref-3.ensures.value (c.schemes.ensures.schemes ∙ c.in_ok-plan.ensures.kept) }
 
@@ -39,6 +47,7 @@ pub returns : goal.returns
 returns c =
     let s = c.args.schema.now in
     let names = printed_names_of s in
+    let steps_are = rw (c.theory-theory.ensures.theory, c.nullable.ensures.nullable) at c.in_ok-steps.ensures.steps in
     let steps = c.in_ok-steps.steps in
     let cover = steps.cover.items in
     let lefts = steps.lefts.items in
@@ -58,10 +67,10 @@ returns c =
         (
           plan,
           record {
-            grouped = c.in_ok-plan.ensures.grouped;
-            lossless = c.in_ok-plan.ensures.lossless;
-            third = c.in_ok-plan.ensures.third;
-            keeps = c.in_ok-plan.ensures.keeps;
+            grouped = (rw (c.theory-theory.ensures.theory) at c.in_ok-plan.ensures.grouped) (nullable_of s) steps_are;
+            lossless = rw (c.theory-theory.ensures.theory) at c.in_ok-plan.ensures.lossless;
+            third = rw (c.theory-theory.ensures.theory) at c.in_ok-plan.ensures.third;
+            keeps = rw (c.theory-theory.ensures.theory) at c.in_ok-plan.ensures.keeps;
           },
           refl,
         ),
@@ -72,7 +81,7 @@ returns c =
             record {
               cover = dependencies_of cover;
               all = all;
-              steps = c.in_ok-steps.ensures.steps;
+              steps = steps_are;
               reads = reads;
             },
             c.with_text.ensures.says

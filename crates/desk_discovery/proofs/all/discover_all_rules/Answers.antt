@@ -4,7 +4,6 @@ use Rattle.std.specs.Prelude.{All}
 use Rattle.attr_sets.specs.Attributes.{below}
 use Rattle.dep_model.specs.Deps.{dependencies_of, IsDepWithin}
 use Rattle.dep_model.specs.declared.dep.Dep.{Dep}
-use Rattle.headed_rows.specs.Headings.{names_under, rows_under}
 use Rattle.desk_responses.specs.ResponseValues.{ResponseValue, Says}
 use Rattle.desk_responses.specs.declared.status.Status.TheVariants.{Yes}
 use Rattle.desk_discovery.specs.AllDiscoveries.{AreAllRulesOf}
@@ -34,11 +33,11 @@ returns c =
     let h = c.args.headed in
     let ds = dependencies_of c.in_ok-deps.deps.items in
     let width : c.len.result ≡ length h.names.items = omega (arith, c.len.ensures, c.args.headed.names.ok) in
-    let rules : AreAllRulesOf c.len.result (rows_under h) ds = record { rules = c.in_ok-deps.ensures.rules; cover = c.in_ok-deps.ensures.cover } in
+    let rules : AreAllRulesOf c.len.result h.rows ds = record { rules = c.in_ok-deps.ensures.rules; cover = c.in_ok-deps.ensures.cover } in
     record {
       response = (
         ds,
-        subst (λ (n : ℕ). AreAllRulesOf n (rows_under h) ds) width rules,
-        says_of (names_under h) _ _ _ c.deref.ensures.value c.in_ok-rules_response.ensures.says,
+        subst (λ (n : ℕ). AreAllRulesOf n h.rows ds) width rules,
+        says_of h.names.items _ _ _ c.deref.ensures.value c.in_ok-rules_response.ensures.says,
       );
     }

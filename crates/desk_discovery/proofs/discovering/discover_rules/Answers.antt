@@ -5,7 +5,6 @@ use Rattle.std.specs.Prelude.{All}
 use Rattle.attr_sets.specs.Attributes.{below}
 use Rattle.dep_model.specs.Deps.{dependencies_of, IsDepWithin}
 use Rattle.dep_model.specs.declared.dep.Dep.{Dep}
-use Rattle.headed_rows.specs.Headings.{names_under, rows_under}
 use Rattle.desk_responses.specs.ResponseValues.{Says}
 use Rattle.desk_responses.specs.Responses.{response_value}
 use Rattle.desk_responses.specs.declared.status.Status.TheVariants.{Yes}
@@ -23,14 +22,14 @@ returns-in-Ok c =
     let h = c.args.headed in
     let ds = dependencies_of c.in-Ok.deps.items in
     let width : c.len.result ≡ length h.names.items = omega (arith, c.len.ensures, c.args.headed.names.ok) in
-    let rules : AreRulesOf c.len.result (rows_under h) ds =
+    let rules : AreRulesOf c.len.result h.rows ds =
     record { minimal = c.in-Ok.ensures.minimal; implied = c.in-Ok.ensures.implied } in
     let response = response_value c.in_ok-rules_response-in-Ok.field-0 in
     record {
       response = inl (
         ds,
-        subst (λ (n : ℕ). AreRulesOf n (rows_under h) ds) width rules,
-        subst (λ (deps : List Dep). Says Yes (found_text (names_under h) (dependencies_of deps)) response)
+        subst (λ (n : ℕ). AreRulesOf n h.rows ds) width rules,
+        subst (λ (deps : List Dep). Says Yes (found_text h.names.items (dependencies_of deps)) response)
             c.deref.ensures.value c.in_ok-rules_response-in-Ok.ensures.says,
       );
     }

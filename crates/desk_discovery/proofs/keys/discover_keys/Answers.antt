@@ -2,7 +2,6 @@
 use Rattle.std.proofs.Common.{◌≡◌, ℕ, List, length, inl, subst, arith}
 use Rattle.attr_sets.specs.declared.set.AttrSet.{AttrSet}
 use Rattle.dep_model.specs.Plans.{schemes_of}
-use Rattle.headed_rows.specs.Headings.{names_under, rows_under}
 use Rattle.fd_search.specs.Keys.{AreRowKeys}
 use Rattle.desk_responses.specs.ResponseValues.{Says}
 use Rattle.desk_responses.specs.Responses.{response_value}
@@ -18,8 +17,8 @@ returns-in-Ok c =
     record {
       response = inl (
         schemes_of c.in-Ok.keys.items,
-        subst (λ (n : ℕ). AreRowKeys n (rows_under h) (schemes_of c.in-Ok.keys.items)) width c.in-Ok.ensures.keys,
-        subst (λ (keys : List AttrSet). Says Yes (row_keys_text (names_under h) (schemes_of keys)) response)
+        subst (λ (n : ℕ). AreRowKeys n h.rows (schemes_of c.in-Ok.keys.items)) width c.in-Ok.ensures.keys,
+        subst (λ (keys : List AttrSet). Says Yes (row_keys_text h.names.items (schemes_of keys)) response)
             c.deref.ensures.value c.in_ok-keys_response-in-Ok.ensures.says,
       );
     }

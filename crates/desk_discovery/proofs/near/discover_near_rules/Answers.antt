@@ -1,7 +1,6 @@
 -- What is left to prove of `discover_near_rules`: its clause `response` where rules are found.
 use Rattle.std.proofs.Common.{◌≡◌, ℕ, length, inl, subst, arith}
 use Rattle.dep_model.specs.Deps.{dependencies_of}
-use Rattle.headed_rows.specs.Headings.{rows_under}
 use Rattle.near_rules.specs.NearRules.{AreNearRules, IsTriedWhole}
 use Rattle.desk_discovery.proofs.near.discover_near_rules.Goals as goal
 
@@ -15,8 +14,8 @@ returns-in-Ok c =
       response = inl (
         ds,
         errors,
-        subst (λ (n : ℕ). AreNearRules n c.args.most c.args.limit (rows_under h) ds errors) width c.in-Ok.ensures.rules,
-        subst (λ (n : ℕ). IsTriedWhole n c.args.most c.args.limit (rows_under h)) width c.in-Ok.ensures.answered,
+        subst (λ (n : ℕ). AreNearRules n c.args.most c.args.limit h.rows ds errors) width c.in-Ok.ensures.rules,
+        subst (λ (n : ℕ). IsTriedWhole n c.args.most c.args.limit h.rows) width c.in-Ok.ensures.answered,
         c.in_ok-near_response-in-Ok.ensures.says,
       );
     }

@@ -5,7 +5,6 @@ use Rattle.std.specs.Prelude.{All}
 use Rattle.attr_sets.specs.Attributes.{below}
 use Rattle.dep_model.specs.Deps.{dependencies_of, IsDepWithin}
 use Rattle.dep_model.specs.declared.dep.Dep.{Dep}
-use Rattle.headed_rows.specs.Headings.{names_under, rows_under}
 use Rattle.fd_search.specs.Small.{AreAllSmall}
 use Rattle.desk_responses.specs.ResponseValues.{Says}
 use Rattle.desk_responses.specs.Responses.{response_value}
@@ -28,8 +27,8 @@ returns-in-Ok c =
     record {
       response = inl (
         ds,
-        subst (λ (n : ℕ). AreAllSmall n c.args.most (rows_under h) ds) width c.in-Ok.ensures.small,
-        subst (λ (deps : List Dep). Says Yes (found_text (names_under h) (dependencies_of deps)) response)
+        subst (λ (n : ℕ). AreAllSmall n c.args.most h.rows ds) width c.in-Ok.ensures.small,
+        subst (λ (deps : List Dep). Says Yes (found_text h.names.items (dependencies_of deps)) response)
             c.deref.ensures.value c.in_ok-rules_response-in-Ok.ensures.says,
       );
     }

@@ -1,7 +1,7 @@
 -- What is left to prove of `derivation_response`: its clause `response`.
 use Rattle.std.proofs.Common.{inl, inr, ℕ, List, ap, sym, ◌∙◌, subst}
 use Rattle.std.proofs.lemmas.Bool.{false≢true}
-use Rattle.dep_model.specs.Schemas.{ImpliedBy}
+use Rattle.schema_model.specs.Schemas.{ImpliedBy}
 use Rattle.derivation_grammar.proofs.Certificates.{derived_is_implied}
 use Rattle.desk_responses.specs.declared.status.Status.TheVariants.{Yes, No}
 use Rattle.desk_responses.specs.ResponseValues.{text_only}

@@ -20,9 +20,9 @@ returns c =
     record {
       text = record {
         steps = closure_step_values found.found.steps.items;
-        are_steps = found.ensures.steps;
+        are_steps = rw (c.theory-theory.ensures.theory) at found.ensures.steps;
         closed = closed;
-        is_closure = c.closure-closed.ensures.closure;
+        is_closure = rw (c.theory-theory.ensures.theory) at c.closure-closed.ensures.closure;
         beside = beside;
         is_beside = subst (λ (y : Attributes). IsBesideText (printed_names_of s) y beside) rest c.in_ok-beside.ensures.text;
         reads = c.in_ok-text.ensures.text

@@ -7,7 +7,7 @@ use Rattle.attr_sets.specs.Sets.{attributes}
 use Rattle.dep_model.proofs.FailureLemmas.{refused_is}
 use Rattle.dep_model.specs.declared.dep.Dep.{Dep}
 use Rattle.dep_model.specs.Deps.{dependencies_of, IsDepWithin}
-use Rattle.dep_model.specs.Schemas.{universe_of}
+use Rattle.schema_model.specs.Schemas.{universe_of}
 use Rattle.desk_responses.specs.ResponseValues.{Says}
 use Rattle.desk_responses.specs.Responses.{response_value}
 use Rattle.desk_responses.specs.declared.status.Status.TheVariants.{Yes}
@@ -32,7 +32,7 @@ projection_response-requires-clause-rules c =
     (λ k d l. let inside = c.in-Ok.ensures.within k d l in ((λ j m. c.requires.within j (inside.0 j m)), (λ j m. c.requires.within j (inside.1 j m))))
 
 pub refused_exit-requires-clause-refused : goal.refused_exit-requires-clause-refused
-refused_exit-requires-clause-refused c = refused_is _ _ _ c.in-Err-Refused.field-0-is c.in-Err-Refused.ensures.refused
+refused_exit-requires-clause-refused c = refused_is _ _ _ c.in-Err-Refused.field-0-is (rw (c.theory.ensures.theory) at c.in-Err-Refused.ensures.refused)
 
 pub returns-in_ok-projection_response-in-Ok : goal.returns-in_ok-projection_response-in-Ok
 returns-in_ok-projection_response-in-Ok c = record {
@@ -40,9 +40,9 @@ returns-in_ok-projection_response-in-Ok c = record {
     dependencies_of c.in-Ok.rules.items,
     record {
       not_empty = λ empty. false≢true (sym c.if-is_empty.false ∙ c.is_empty.ensures.empty.1 empty);
-      narrow = c.in-Ok.ensures.narrow;
-      projection = c.in-Ok.ensures.projection;
-      cover = c.in-Ok.ensures.cover;
+      narrow = (rw (c.theory.ensures.theory) at c.in-Ok.ensures.narrow);
+      projection = (rw (c.theory.ensures.theory) at c.in-Ok.ensures.projection);
+      cover = (rw (c.theory.ensures.theory) at c.in-Ok.ensures.cover);
     },
     subst (λ (ds : List Dep). Says Yes (projection_text c.args.schema.now (attributes c.args.set) (dependencies_of ds)) (response_value c.in_ok-projection_response-in-Ok.field-0))
         c.deref.ensures.value c.in_ok-projection_response-in-Ok.ensures.says,

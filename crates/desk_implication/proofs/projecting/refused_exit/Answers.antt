@@ -1,7 +1,7 @@
 -- What is left to prove of `refused_exit`: its clause `says`, for each refusal.
 use Rattle.std.proofs.Common.{inl, inr, subst}
 use Rattle.attr_sets.specs.Sets.{attributes}
-use Rattle.dep_model.specs.Schemas.{width_of, theory_of}
+use Rattle.schema_model.specs.Schemas.{width_of, theory_of}
 use Rattle.fd_projection.specs.Refusals.{IsRefusedProjection}
 use Rattle.desk_implication.proofs.projecting.refused_exit.Goals as goal
 

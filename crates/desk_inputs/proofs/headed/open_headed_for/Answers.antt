@@ -1,6 +1,6 @@
 -- What is left to prove of `open_headed_for`: its clauses `ok` and `exit`, by `refusal_stops`.
 use Rattle.std.proofs.Common.{ℕ, List, subst}
-use Rattle.headed_rows.specs.Headings.{IsHeadedWithin, IsRefusedWithin}
+use Rattle.headed_rows.specs.Headings.{headed_of, IsHeadedWithin, IsRefusedWithin}
 use Rattle.dep_model.proofs.FailureLemmas.{refused_is}
 use Rattle.desk_responses.specs.ResponseValues.{Says}
 use Rattle.desk_inputs.specs.Headed.{headed_file_for, headed_refusal_text}
@@ -13,7 +13,7 @@ pub returns-in-Ok-read_headed-clause-ok : goal.returns-in-Ok-read_headed-clause-
 returns-in-Ok-read_headed-clause-ok g c = λ r same. record {
   bytes = c.in-Ok.bytes.items;
   content = c.in-Ok.ensures.ok r same;
-  means = subst (λ (bytes : List ℕ). IsHeadedWithin c.args.limits bytes c.in-Ok-read_headed.headed) c.deref.ensures.value c.in-Ok-read_headed.ensures.ok;
+  means = subst (λ (bytes : List ℕ). IsHeadedWithin c.args.limits bytes (headed_of c.in-Ok-read_headed.headed)) c.deref.ensures.value c.in-Ok-read_headed.ensures.ok;
 }
 
 pub returns-in-Err-Refused-clause-exit : goal.returns-in-Err-Refused-clause-exit

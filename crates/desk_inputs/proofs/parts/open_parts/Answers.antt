@@ -5,7 +5,7 @@ use Rattle.std.proofs.lemmas.Grind.{common_steps}
 use Rattle.std.proofs.lemmas.Option.{slice_get_read}
 use Rattle.std.specs.Prelude.{All}
 use Rattle.csv_rows.specs.declared.part.PartialRows.{PartialRows}
-use Rattle.dep_model.specs.Schemas.{width_of}
+use Rattle.schema_model.specs.Schemas.{width_of}
 use Rattle.table_join.specs.Tables.{IsTable, tables_of}
 use Rattle.desk_outside.specs.Begun.{Begins}
 use Rattle.desk_inputs.specs.FileKinds.{IsFile}

@@ -1,7 +1,7 @@
 -- What the loop of `open_parts` keeps: `files`, `begins`, `later`, `read`, `tables` and `one_each`.
 use Rattle.std.proofs.Common.{◌≡◌, ◌≤◌, length, take}
 use Rattle.std.specs.Prelude.{All}
-use Rattle.dep_model.specs.Schemas.{width_of}
+use Rattle.schema_model.specs.Schemas.{width_of}
 use Rattle.table_join.specs.Tables.{IsTable, tables_of}
 use Rattle.desk_inputs.specs.FilesBegun.{BeginsAll}
 use Rattle.desk_inputs.specs.Readings.{Reading, files_in}

@@ -7,7 +7,7 @@ use Rattle.plans.specs.declared.plan.Plan.{Plan}
 use Rattle.dep_model.specs.Projections.{Covers}
 use Rattle.plans.specs.declared.bounds.TheConstants.{MOST_SCHEMES}
 use Rattle.dep_model.proofs.FailureLemmas.{refused_is}
-use Rattle.dep_model.specs.Schemas.{naming_of, names_of, width_of}
+use Rattle.schema_model.specs.Schemas.{naming_of, names_of, width_of, theory_in}
 use Rattle.schema_printer.specs.Spelling.{printed_names_of}
 use Rattle.plan_grammar.specs.Diagnostics.{RefusesPlan}
 use Rattle.plan_grammar.specs.Meanings.{MeansPlan}
@@ -32,7 +32,7 @@ returns-in-Ok-read_plan-clause-ok g c = λ r same. record {
 
 pub returns-in-Ok-read_plan-clause-universe : goal.returns-in-Ok-read_plan-clause-universe
 returns-in-Ok-read_plan-clause-universe g c =
-    subst (λ (plan : Plan). IsPlanOver c.args.schema.now plan) (sym c.in_ok-in_order-in-Ok-read_plan.ensures.plan) c.in-Ok-read_plan.ensures.universe
+    subst (λ (plan : Plan). IsPlanOver (theory_in c.args.schema.now) plan) (sym c.in_ok-in_order-in-Ok-read_plan.ensures.plan) c.in-Ok-read_plan.ensures.universe
 
 pub returns-in-Ok-read_plan-clause-within_limit : goal.returns-in-Ok-read_plan-clause-within_limit
 returns-in-Ok-read_plan-clause-within_limit g c =

@@ -6,7 +6,7 @@ use Rattle.attr_sets.specs.Attributes.{Attributes}
 use Rattle.attr_sets.specs.Sets.{attributes}
 use Rattle.attr_sets.proofs.AttributesLemmas.{same_from_within}
 use Rattle.dep_model.specs.Keys.{IsKey}
-use Rattle.dep_model.specs.Schemas.{width_of, universe_of, theory_of}
+use Rattle.schema_model.specs.Schemas.{width_of, universe_of, theory_of}
 use Rattle.dep_model.proofs.KeyLemmas.{greedy_is_key, key_of_superkey}
 use Rattle.desk_keys.proofs.key_checks.superkey_response.Goals as goal
 
@@ -18,7 +18,7 @@ returns-then-eq c =
     let x = attributes c.args.set in
     let key = attributes c.one_key-key.result in
     let same : key ≡ x = c.if-eq.ensures.same.0 refl in
-    let is_key = key_of_superkey n ds (universe_of s) x key c.requires.superkey (greedy_is_key n ds x key c.requires.within c.one_key-key.ensures.greedy) in
+    let is_key = key_of_superkey n ds (universe_of s) x key c.requires.superkey (greedy_is_key n ds x key c.requires.within (rw (c.theory.ensures.theory) at c.one_key-key.ensures.greedy)) in
     record {
       response = (
         c.in_ok-text.text.items,
@@ -36,7 +36,7 @@ returns c =
     let ds = theory_of s in
     let x = attributes c.args.set in
     let key = attributes c.one_key-key.result in
-    let greedy = c.one_key-key.ensures.greedy in
+    let greedy = (rw (c.theory.ensures.theory) at c.one_key-key.ensures.greedy) in
     let is_key = key_of_superkey n ds (universe_of s) x key c.requires.superkey (greedy_is_key n ds x key c.requires.within greedy) in
     record {
       response = (

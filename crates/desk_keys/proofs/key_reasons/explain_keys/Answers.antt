@@ -2,7 +2,7 @@
 use Rattle.std.proofs.Common.{◌≡◌, Bool, true, false, sym, ap, subst, ◌∙◌, inl, inr, refl}
 use Rattle.std.proofs.lemmas.Bool.{false≢true}
 use Rattle.dep_model.specs.declared.failure.Failure.{Failure}
-use Rattle.dep_model.specs.declared.schema.Schema.{Schema}
+use Rattle.schema_model.specs.Schemas.{Schema, theory_in}
 use Rattle.key_listing.specs.declared.refusal.KeyRefusal.{KeyRefusal}
 use Rattle.key_listing.specs.Refusals.{IsRefusedListing}
 use Rattle.desk_responses.specs.ResponseValues.{ResponseValue}
@@ -29,7 +29,7 @@ refused_not_yes s response (inr (narrow, many, says)) agrees =
 
 pub keys_exit-requires : goal.keys_exit-requires
 keys_exit-requires c = record {
-  refused = subst (λ (failure : Failure KeyRefusal). IsRefusedListing c.args.schema.now failure) c.in-Err-Refused.field-0-is c.in-Err-Refused.ensures.refused;
+  refused = subst (λ (failure : Failure KeyRefusal). IsRefusedListing (theory_in c.args.schema.now) failure) c.in-Err-Refused.field-0-is (rw (c.theory.ensures.theory) at c.in-Err-Refused.ensures.refused);
 }
 
 pub returns-in-Err-Refused : goal.returns-in-Err-Refused

@@ -6,8 +6,8 @@ use Rattle.std.specs.Prelude.{All}
 use Rattle.attr_sets.specs.Attributes.{Attributes, below}
 use Rattle.attr_sets.specs.Sets.{attributes}
 use Rattle.attr_sets.specs.declared.set.AttrSet.{AttrSet}
-use Rattle.dep_model.specs.Schemas.{width_of, theory_of, universe_of}
-use Rattle.dep_model.specs.declared.schema.Schema.{Schema}
+use Rattle.schema_model.specs.Schemas.{width_of, theory_of, universe_of}
+use Rattle.schema_model.specs.Schemas.{Schema}
 use Rattle.key_listing.specs.Listing.{AreAllKeys}
 use Rattle.desk_keys.specs.KeyReasons.{InEveryKey, InNoKey}
 use Rattle.desk_keys.proofs.key_reasons.reason_lines.Goals as goal

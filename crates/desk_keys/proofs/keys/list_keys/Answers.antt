@@ -9,7 +9,7 @@ use Rattle.attr_sets.specs.Sets.{attributes}
 use Rattle.dep_model.specs.Keys.{IsKey}
 use Rattle.dep_model.specs.declared.failure.Failure.{Failure}
 use Rattle.dep_model.specs.declared.failure.Failure.TheVariants as failed
-use Rattle.dep_model.specs.Schemas.{width_of, theory_of, universe_of}
+use Rattle.schema_model.specs.Schemas.{width_of, theory_of, universe_of, theory_in}
 use Rattle.schema_printer.specs.Spelling.{printed_names_of}
 use Rattle.key_listing.specs.declared.refusal.KeyRefusal.{KeyRefusal}
 use Rattle.key_listing.specs.Refusals.{IsRefusedListing}
@@ -25,10 +25,10 @@ sets_response-requires c =
     record {
       within = subst (λ (sets : List AttrSet). All (λ (k : AttrSet). IsSubset (attributes k) (universe_of s)) sets) (sym c.deref.ensures.value)
           (All-weaker (λ (k : AttrSet). IsKey (width_of s) (theory_of s) (universe_of s) (attributes k)) (λ (k : AttrSet). IsSubset (attributes k) (universe_of s))
-          (λ k key. key.superkey.within.0) c.in-Ok.keys.items c.in-Ok.ensures.keys.each);
+          (λ k key. key.superkey.within.0) c.in-Ok.keys.items (rw (c.theory.ensures.theory) at c.in-Ok.ensures.keys).each);
     }
 
 pub keys_exit-requires : goal.keys_exit-requires
 keys_exit-requires c = record {
-  refused = subst (λ (failure : Failure KeyRefusal). IsRefusedListing c.args.schema.now failure) c.in-Err-Refused.field-0-is c.in-Err-Refused.ensures.refused;
+  refused = subst (λ (failure : Failure KeyRefusal). IsRefusedListing (theory_in c.args.schema.now) failure) c.in-Err-Refused.field-0-is (rw (c.theory.ensures.theory) at c.in-Err-Refused.ensures.refused);
 }

@@ -7,7 +7,7 @@ use Rattle.attr_sets.specs.declared.set.AttrSet.{AttrSet}
 use Rattle.attr_sets.specs.Attributes.{IsSubset}
 use Rattle.attr_sets.specs.Sets.{attributes}
 use Rattle.dep_model.specs.Keys.{IsKey}
-use Rattle.dep_model.specs.Schemas.{width_of, theory_of, universe_of}
+use Rattle.schema_model.specs.Schemas.{width_of, theory_of, universe_of}
 use Rattle.schema_printer.specs.Spelling.{printed_names_of}
 use Rattle.desk_keys.specs.Keys.{keyed_text}
 use Rattle.desk_keys.specs.KeyedLines.{AddsKeys, StandIn}

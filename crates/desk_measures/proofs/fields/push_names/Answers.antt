@@ -2,7 +2,7 @@
 use Rattle.std.proofs.Common.{List, ℕ, ◌++◌, ◌∷◌, [], take, ap, sym, ◌∙◌}
 use Rattle.std.proofs.lemmas.List.{append_assoc}
 use Rattle.dep_model.proofs.ListLemmas.{take_next}
-use Rattle.dep_model.specs.Schemas.{names_of}
+use Rattle.schema_model.specs.Schemas.{names_of}
 use Rattle.dep_model.specs.Tuples.{Tuple}
 use Rattle.desk_measures.proofs.fields.push_names.Goals as goal
 

@@ -4,7 +4,7 @@ use Rattle.std.specs.Prelude.{All}
 use Rattle.attr_sets.specs.Attributes.{below}
 use Rattle.csv_text.specs.Rows.{rows_text}
 use Rattle.dep_model.specs.Deps.{IsDepWithin, dependencies_of}
-use Rattle.dep_model.specs.Schemas.{names_of, theory_of, universe_of, width_of}
+use Rattle.schema_model.specs.Schemas.{names_of, theory_of, universe_of, width_of}
 use Rattle.dep_model.specs.declared.dep.Dep.{Dep}
 use Rattle.fd_closure.proofs.ClosedSets.{all_functional}
 use Rattle.legality.specs.Parts.{flag_at}

@@ -1,7 +1,7 @@
 -- What is left to prove of `kept_text`: that its loop begins with the header.
 use Rattle.std.proofs.Common.{List, ℕ, ◌++◌, ap, ◌∙◌}
 use Rattle.csv_text.specs.Rows.{csv_row}
-use Rattle.dep_model.specs.Schemas.{names_of}
+use Rattle.schema_model.specs.Schemas.{names_of}
 use Rattle.dep_model.specs.Tuples.{Tuple}
 use Rattle.legality.specs.Parts.{flag_at}
 use Rattle.desk_measures.proofs.KeepingLemmas.{no_rows_text}

@@ -1,7 +1,7 @@
 -- What the loop of `kept_text` keeps: the text of those of the rows so far that have a flag.
 use Rattle.std.proofs.Common.{◌≡◌, take}
 use Rattle.csv_text.specs.Rows.{rows_text}
-use Rattle.dep_model.specs.Schemas.{names_of}
+use Rattle.schema_model.specs.Schemas.{names_of}
 use Rattle.legality.specs.Parts.{flag_at}
 use Rattle.removal_laws.specs.Removals.{rows_at}
 use Rattle.desk_measures.proofs.keeping.kept_text.Given as goal

@@ -1,7 +1,7 @@
 -- What is left to prove of `measure_response`: its clause `response`, by `adds_both`.
 use Rattle.std.proofs.Common.{List, ℕ, Bool, ap, subst, ◌∙◌}
 use Rattle.std.specs.Prelude.{◌&&◌}
-use Rattle.dep_model.specs.Schemas.{width_of}
+use Rattle.schema_model.specs.Schemas.{width_of}
 use Rattle.desk_responses.specs.ResponseValues.{text_only}
 use Rattle.desk_responses.specs.declared.status.Status.{Status}
 use Rattle.desk_measures.specs.Findings.{Adds, FindsBelow, FindsBoth, status_of}

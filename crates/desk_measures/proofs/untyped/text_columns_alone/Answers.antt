@@ -3,7 +3,7 @@ use Rattle.std.proofs.Common.{ℕ, ap, ◌∙◌}
 use Rattle.std.specs.Prelude.{replicate}
 use Rattle.attr_sets.specs.Sets.{attributes}
 use Rattle.dep_model.specs.Deps.{dependencies_of}
-use Rattle.dep_model.specs.declared.column_type.ColumnType.TheVariants.{Text}
+use Rattle.schema_model.specs.declared.column_type.ColumnType.TheVariants.{Text}
 use Rattle.desk_measures.proofs.TextLemmas.{texts_are_declared, texts_are_schema}
 use Rattle.desk_measures.proofs.untyped.text_columns_alone.Goals as goal
 

@@ -1,7 +1,7 @@
 -- What is left to prove of `judged_form`: its clause, by `opens`.
 use Rattle.std.proofs.Common.{List, [], ◌∷◌, subst}
 use Rattle.attr_sets.specs.Attributes.{Attributes}
-use Rattle.dep_model.specs.Schemas.{universe_of}
+use Rattle.schema_model.specs.Schemas.{universe_of}
 use Rattle.desk_designs.specs.NormalForms.{JudgesForm}
 use Rattle.desk_responses.specs.Responses.{RespondsAs}
 use Rattle.desk_reports.specs.Forms.{form_title}

@@ -2,7 +2,7 @@
 use Rattle.std.proofs.Common.{◌≡◌, ℕ, List, refl, ap, subst, ◌∙◌, codes}
 use Rattle.attr_sets.specs.Sets.{attributes}
 use Rattle.dep_model.specs.Dependencies.{fd}
-use Rattle.dep_model.specs.Schemas.{universe_of}
+use Rattle.schema_model.specs.Schemas.{universe_of}
 use Rattle.attr_sets.specs.Attributes.{Attributes, below}
 use Rattle.desk_implication.specs.Implication.{DecidesGoal}
 use Rattle.desk_responses.specs.Responses.{RespondsAs}

@@ -5,7 +5,7 @@ use Rattle.std.specs.Prelude.{IfSome}
 use Rattle.std.proofs.lemmas.Result.{IfOk-weaker}
 use Rattle.attr_sets.specs.Attributes.{Attributes, below}
 use Rattle.attr_sets.specs.Sets.{attributes}
-use Rattle.dep_model.specs.Schemas.{theory_of, universe_of, width_of}
+use Rattle.schema_model.specs.Schemas.{theory_of, universe_of, width_of}
 use Rattle.fd_closure.specs.LeftSides.{IsWideScheme}
 use Rattle.normal_forms.specs.Chosen.{IsChosenViolation}
 use Rattle.normal_forms.specs.declared.forms.Breach.{Breach}
@@ -22,12 +22,12 @@ returns-in-Ok-Some c =
     let y = attributes c.in-Ok-Some.breach.rhs in
     let whole : attributes c.full.result ≡ universe_of s = c.full.ensures.members ∙ ap below c.width.ensures.count in
     let chosen = subst (λ (found : Option Breach). IfSome found (λ breach. IsChosenViolation (width_of s) (theory_of s) form (attributes c.full.result) (attributes breach.lhs) (attributes breach.rhs)))
-    c.in-Ok-Some.field-0-is c.in-Ok-Some.ensures.chosen in
+    c.in-Ok-Some.field-0-is (rw (c.theory.ensures.theory) at c.in-Ok-Some.ensures.chosen) in
     record {
       shown = IfOk-weaker c.shown_breach.result (λ text. Then (ShowsWhy file s form x y) (ShowsTwice s x) text.items)
           (λ text. ShowsViolation file s form text.items)
           (λ text shown. inr (
-            (λ wide. false≢true (c.in-Ok-Some.ensures.too_wide.1 (subst (λ (u : Attributes). IsWideScheme (theory_of s) u) (sym whole) wide))),
+            (λ wide. false≢true ((rw (c.theory.ensures.theory) at c.in-Ok-Some.ensures.too_wide).1 (subst (λ (u : Attributes). IsWideScheme (theory_of s) u) (sym whole) wide))),
             (
               x,
               y,

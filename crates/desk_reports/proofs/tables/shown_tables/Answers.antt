@@ -3,7 +3,7 @@ use Rattle.std.proofs.Common.{◌≡◌, ℕ, List, [], Result, Ok, Err, inl, in
 use Rattle.std.specs.Prelude.{IfOk, Vec}
 use Rattle.std.specs.declared.alloc.Global.{Global}
 use Rattle.dep_model.specs.declared.memory.OutOfMemory.{OutOfMemory}
-use Rattle.dep_model.specs.declared.schema.Schema.{Schema}
+use Rattle.schema_model.specs.Schemas.{Schema}
 use Rattle.dep_model.specs.declared.form.Form.{Form}
 use Rattle.desk_designs.specs.Decompositions.{FormStops}
 use Rattle.desk_responses.specs.Responses.{ExitsAs, response_value}

@@ -2,7 +2,7 @@
 use Rattle.std.proofs.Common.{◌↔◌, ℕ, List, sym, ap, subst, ◌∙◌}
 use Rattle.sql_check_laws.specs.HeldRelations.{Holds}
 use Rattle.sql_check_laws.specs.CheckedRules.{NoBreachShown, RulesHold, NothingShown}
-use Rattle.dep_model.specs.Schemas.{LegalFor}
+use Rattle.schema_model.specs.Schemas.{LegalFor}
 use Rattle.sql_scripts.specs.Checking.{check_text}
 use Rattle.sql_scripts.specs.Naming.{quoted_table}
 use Rattle.desk_responses.specs.ResponseValues.{Says}

@@ -1,6 +1,6 @@
 -- What is left to prove of `statements_response`: its clause `response`, by what `migrate_script` does.
 use Rattle.std.proofs.Common.{◌≡◌, ℕ, List, length, subst, ap, ◌∙◌}
-use Rattle.dep_model.specs.Schemas.{width_of}
+use Rattle.schema_model.specs.Schemas.{width_of}
 use Rattle.sql_check_laws.specs.HeldRelations.{Holds}
 use Rattle.sql_evaluation.specs.Running.{State, engine_at, ended, stopped, outcome}
 use Rattle.sql_migrate.specs.Script.{migration}

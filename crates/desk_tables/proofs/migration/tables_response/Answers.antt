@@ -1,8 +1,8 @@
 -- What is left to prove of `tables_response`: the text speaks of the rows that go along with the tables.
 use Rattle.std.proofs.Common.{List, ℕ, ap, ◌∙◌}
-use Rattle.dep_model.specs.Schemas.{naming_of}
+use Rattle.schema_model.specs.Schemas.{naming_of}
 use Rattle.dep_model.specs.Tuples.{Relation}
-use Rattle.dep_model.specs.declared.naming.Naming.{Naming}
+use Rattle.schema_model.specs.declared.naming.Naming.{Naming}
 use Rattle.named_tables.specs.Tables.{table_values}
 use Rattle.desk_responses.specs.ResponseValues.{yes_with_tables}
 use Rattle.desk_tables.specs.Migrations.{migrated_text}

@@ -4,7 +4,7 @@ use Rattle.std.proofs.lemmas.List.{length-map}
 use Rattle.std.proofs.lemmas.Result.{IfOk-weaker}
 use Rattle.std.specs.Prelude.{codes}
 use Rattle.dep_model.specs.Deps.{dependency_of, dependencies_of}
-use Rattle.dep_model.specs.declared.schema.TheConstants.{MOST_DEPENDENCIES}
+use Rattle.dep_model.specs.declared.theory.TheConstants.{MOST_DEPENDENCIES}
 use Rattle.desk_texts.specs.Texts.{line, overlong_text}
 use Rattle.desk_texts.proofs.OverlongLemmas.{overlong, not_overlong}
 use Rattle.desk_texts.proofs.text.overlong_comment.Goals as goal

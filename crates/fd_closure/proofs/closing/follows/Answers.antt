@@ -12,11 +12,13 @@ returns c =
     let found = attributes c.closed_until.result in
     let grows = c.closed_until.ensures.grows in
     record {
-      implied = λ n within lhs_in rhs_in. (
-        (λ holds r legal. fd_weaker_obeyed x found x y r (λ k m. m) (c.is_subset.ensures.subset.0 holds) (grows.implied n r legal)),
-        (λ implied. ⊎_elim
-            (λ inside. c.is_subset.ensures.subset.1 inside)
-            (λ is_closed. c.is_subset.ensures.subset.1 (functionally_closed_holds n c.args.deps.now x y found within lhs_in rhs_in is_closed grows.holds implied))
-            c.closed_until.ensures.found),
-      );
+      implied = record {
+        over = λ n within lhs_in rhs_in. (
+          (λ holds r legal. fd_weaker_obeyed x found x y r (λ k m. m) (c.is_subset.ensures.subset.0 holds) (grows.implied n r legal)),
+          (λ implied. ⊎_elim
+              (λ inside. c.is_subset.ensures.subset.1 inside)
+              (λ is_closed. c.is_subset.ensures.subset.1 (functionally_closed_holds n c.args.deps.now x y found within lhs_in rhs_in is_closed grows.holds implied))
+              c.closed_until.ensures.found),
+        );
+      };
     }

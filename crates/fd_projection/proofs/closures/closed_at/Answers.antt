@@ -3,14 +3,14 @@ use Rattle.std.proofs.Common.{subst}
 use Rattle.std.specs.Prelude.{Option, IfSome}
 use Rattle.attr_sets.specs.Sets.{attributes}
 use Rattle.attr_sets.specs.declared.set.AttrSet.{AttrSet}
-use Rattle.dep_model.specs.Schemas.{width_of, theory_of}
+use Rattle.dep_model.specs.Theories.{width_of, theory_of}
 use Rattle.fd_closure.specs.Closures.{IsClosureOf}
 use Rattle.fd_projection.proofs.closures.closed_at.Goals as goal
 
 pub returns-in-Some : goal.returns-in-Some
 returns-in-Some c =
-    let n = width_of c.args.schema.now in
-    let ds = theory_of c.args.schema.now in
+    let n = width_of c.args.theory.now in
+    let ds = theory_of c.args.theory.now in
     let set = attributes c.args.set in
     record {
       closure = subst (λ (found : Option AttrSet). IfSome found (λ closed. IsClosureOf n ds set (attributes closed)))

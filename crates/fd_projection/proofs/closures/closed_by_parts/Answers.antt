@@ -5,7 +5,7 @@ use Rattle.std.proofs.lemmas.Bool.{ltb-true}
 use Rattle.attr_sets.specs.Sets.{attributes}
 use Rattle.attr_sets.specs.declared.set.AttrSet.{AttrSet}
 use Rattle.attr_sets.proofs.AttributesLemmas.{same_at}
-use Rattle.dep_model.specs.Schemas.{width_of, theory_of}
+use Rattle.dep_model.specs.Theories.{width_of, theory_of}
 use Rattle.fd_projection.proofs.PartLemmas.{IsClosureOfPartsBelow, parts_none, parts_skip, parts_more, parts_all}
 use Rattle.fd_projection.proofs.closures.closed_by_parts.Goals as goal
 use Rattle.fd_projection.proofs.closures.closed_by_parts.Goals.{then-contains, else-contains}
@@ -15,12 +15,12 @@ closed_at-requires-clause-set c k m = c.requires.set k (grind (arith, same_at c.
 
 pub loop-attribute-init : goal.loop-attribute-init
 loop-attribute-init c =
-    let s = c.args.schema.now in
+    let s = c.args.theory.now in
     parts_none (width_of s) (theory_of s) (attributes c.args.set) (attributes c.empty-found.result) c.empty-found.ensures.members
 
 pub loop-attribute-preserved : goal.loop-attribute-preserved
 loop-attribute-preserved c =
-    let s = c.args.schema.now in
+    let s = c.args.theory.now in
     let n = width_of s in
     let ds = theory_of s in
     let x = attributes c.args.set in
@@ -37,7 +37,7 @@ loop-attribute-preserved c =
 
 pub returns : goal.returns
 returns c =
-    let s = c.args.schema.now in
+    let s = c.args.theory.now in
     record {
       parts = parts_all (width_of s) (theory_of s) (attributes c.args.set) (attributes c.loop-attribute.found) c.loop-attribute.attribute
           (λ b member. omega (arith, ltb-true b (width_of s) (c.requires.set b member), c.loop-attribute-test.false, c.width-attribute-end.ensures.count)) c.loop-attribute.invariant;

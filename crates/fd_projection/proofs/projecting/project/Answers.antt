@@ -9,7 +9,7 @@ use Rattle.attr_sets.specs.Sets.{attributes}
 use Rattle.dep_model.specs.declared.dep.Dep.{Dep}
 use Rattle.dep_model.specs.Dependencies.{IsWithin}
 use Rattle.dep_model.specs.Deps.{dependency_of, dependencies_of}
-use Rattle.dep_model.specs.Schemas.{width_of, theory_of, deps_of}
+use Rattle.dep_model.specs.Theories.{width_of, theory_of, deps_of}
 use Rattle.dep_model.proofs.DepLemmas.{dependencies_all-to}
 use Rattle.min_cover.specs.Covers.{IsThinned}
 use Rattle.fd_projection.specs.declared.refusal.TheConstants.{MOST_LISTED}
@@ -20,7 +20,7 @@ use Rattle.fd_projection.proofs.projecting.project.Goals.{In_ok-nonredundant_fro
 
 pub nonredundant_from-requires-clause-within : goal.nonredundant_from-requires-clause-within
 nonredundant_from-requires-clause-within c =
-    let s = c.args.schema.now in
+    let s = c.args.theory.now in
     let n = width_of s in
     let set = attributes c.args.set in
     let W = IsWithin (below n) in
@@ -30,9 +30,9 @@ nonredundant_from-requires-clause-within c =
     (dependencies_of c.in_ok-found.found.items) c.in_ok-found.ensures.found.each))
 
 -- what is answered is the projection, and covers the set
-covers : (c : In_ok-nonredundant_from) → IsCoverWithin (width_of c.args.schema.now) (theory_of c.args.schema.now) (attributes c.args.set) (dependencies_of c.in_ok-nonredundant_from.field-0.items)
+covers : (c : In_ok-nonredundant_from) → IsCoverWithin (width_of c.args.theory.now) (theory_of c.args.theory.now) (attributes c.args.set) (dependencies_of c.in_ok-nonredundant_from.field-0.items)
 covers c =
-    let s = c.args.schema.now in
+    let s = c.args.theory.now in
     let n = width_of s in
     let set = attributes c.args.set in
     let found = c.in_ok-found.found.items in
@@ -48,7 +48,7 @@ covers c =
       within_limit = few;
       thinned = thinned;
     } in
-    projection_covers n (deps_of s) set (dependencies_of c.in_ok-nonredundant_from.field-0.items) s.valid.names_within_limit s.valid.deps_within c.requires.set projection
+    projection_covers n (deps_of s) set (dependencies_of c.in_ok-nonredundant_from.field-0.items) s.valid.within_limit s.valid.deps_within c.requires.set projection
 
 pub returns-clause-cover : goal.returns-clause-cover
 returns-clause-cover c = covers (goal.at.returns-clause-cover c).In_ok-nonredundant_from

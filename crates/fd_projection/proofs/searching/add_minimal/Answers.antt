@@ -10,7 +10,7 @@ use Rattle.dep_model.specs.declared.dep.Dep.{Dep}
 use Rattle.dep_model.specs.declared.dep.Dep.TheVariants.{Fd}
 use Rattle.dep_model.specs.Dependencies.{Dependency, fd}
 use Rattle.dep_model.specs.Deps.{dependency_of, dependencies_of}
-use Rattle.dep_model.specs.Schemas.{width_of, theory_of}
+use Rattle.dep_model.specs.Theories.{width_of, theory_of}
 use Rattle.fd_projection.specs.Projections.{IsMinimalWithin}
 use Rattle.fd_projection.specs.Closures.{AreTriedMinimal}
 use Rattle.fd_projection.proofs.MinimalLemmas.{rights_minimal}
@@ -20,12 +20,12 @@ use Rattle.fd_projection.proofs.searching.add_minimal.Goals.{then-contains+in_ok
 
 pub loop-attribute-init : goal.loop-attribute-init
 loop-attribute-init c =
-    let s = c.args.schema.now in
+    let s = c.args.theory.now in
     tried_begin (width_of s) (theory_of s) (attributes c.args.set) (attributes c.args.lhs) (dependencies_of c.args.found.now.items) c.requires.found
 
 pub loop-attribute-preserved : goal.loop-attribute-preserved
 loop-attribute-preserved c =
-    let s = c.args.schema.now in
+    let s = c.args.theory.now in
     let n = width_of s in
     let ds = theory_of s in
     let set = attributes c.args.set in
@@ -59,7 +59,7 @@ loop-attribute-preserved c =
 
 pub returns : goal.returns
 returns c =
-    let s = c.args.schema.now in
+    let s = c.args.theory.now in
     record {
       found = tried_done (width_of s) (theory_of s) (attributes c.args.set) (attributes c.args.lhs) c.loop-attribute.attribute (dependencies_of c.loop-attribute.found.items)
           (λ a m. omega (arith, ltb-true a (width_of s) (c.requires.set a m), c.loop-attribute-test.false, c.width-attribute-end.ensures.count)) c.loop-attribute.invariant;

@@ -3,7 +3,7 @@
 use Rattle.std.specs.Prelude.{All}
 use Rattle.attr_sets.specs.Sets.{attributes}
 use Rattle.dep_model.specs.Deps.{dependencies_of}
-use Rattle.dep_model.specs.Schemas.{width_of, theory_of}
+use Rattle.dep_model.specs.Theories.{width_of, theory_of}
 use Rattle.normal_forms.proofs.SearchLemmas.{subsets_left}
 use Rattle.fd_closure.specs.Closures.{IsKnownClosure}
 use Rattle.fd_projection.proofs.FoundLemmas.{IsWalked}
@@ -11,8 +11,8 @@ use Rattle.fd_projection.proofs.searching.minimal_within.Given as goal
 
 abbrev pub invariant-loop-next : goal.invariant-loop-next
 invariant-loop-next l = record {
-  known : All (IsKnownClosure (width_of l.schema) (theory_of l.schema)) l.table.items;
-  walked : IsWalked (width_of l.schema) (theory_of l.schema) (attributes l.set) (attributes l.whole) l.next (dependencies_of l.found.items);
+  known : All (IsKnownClosure (width_of l.theory) (theory_of l.theory)) l.table.items;
+  walked : IsWalked (width_of l.theory) (theory_of l.theory) (attributes l.set) (attributes l.whole) l.next (dependencies_of l.found.items);
 }
 
 abbrev pub decreases-loop-next : goal.decreases-loop-next

@@ -1,6 +1,6 @@
 -- What is left to prove of `columns`: that the invariant of its loop stays, by `range_more`.
 use Rattle.std.proofs.Common.{◌++◌, ◌∷◌, [], ℕ, List, sym, ap, ◌∙◌}
-use Rattle.fd_search.proofs.ListLemmas.{range_more}
+use Rattle.dep_model.proofs.ListLemmas.{range_more}
 use Rattle.fd_search.proofs.searching.columns.Goals as goal
 
 pub loop-column-preserved : goal.loop-column-preserved

@@ -3,7 +3,7 @@
 use Rattle.std.proofs.Common.{arith, ◌≡◌, length}
 use Rattle.dep_model.proofs.FailureLemmas.{refuses_also}
 use Rattle.headed_rows.proofs.FieldLemmas.{header_not_empty}
-use Rattle.headed_rows.proofs.HeadingLemmas.{header_refused, rows_refused, refused_text, headed_of}
+use Rattle.headed_rows.proofs.HeadingLemmas.{header_refused, rows_refused, refused_text, is_headed}
 use Rattle.headed_rows.proofs.headed_rows.read_headed.Goals as goal
 
 pub returns-in-Err-clause-err : goal.returns-in-Err-clause-err
@@ -14,7 +14,7 @@ pub returns-in-Ok-read_body-clause-ok : goal.returns-in-Ok-read_body-clause-ok
 returns-in-Ok-read_body-clause-ok c =
     let read = c.in-Ok.ensures.ok _ c.open_reader-reader.ensures.records in
     let count : c.len.result ≡ length c.in-Ok.names.items = omega (arith, c.in-Ok.names.ok.0, c.len.ensures) in
-    headed_of c.args.limits _ _ _ _ _ c.open_record-unclosed.ensures.open read count (c.in-Ok-read_body.ensures.records read.records read.left)
+    is_headed c.args.limits _ _ _ _ _ c.open_record-unclosed.ensures.open read count (c.in-Ok-read_body.ensures.records read.records read.left)
     c.in-Ok-read_body.ensures.closed c.in-Ok-read_body.ensures.same_width
     c.in-Ok-read_body.ensures.within_limit
 

@@ -11,7 +11,7 @@ use Rattle.dep_model.specs.declared.dep.Dep.TheVariants.{Fd, Mvd}
 use Rattle.dep_model.specs.Dependencies.{Dependency, is_fd}
 use Rattle.dep_model.specs.Keys.{IsSuperkey}
 use Rattle.dep_model.specs.Deps.{dependency_of, dependencies_of, IsDepWithin}
-use Rattle.dep_model.specs.Schemas.{width_of, universe_of, theory_of, deps_of}
+use Rattle.dep_model.specs.Theories.{width_of, universe_of, theory_of, deps_of}
 use Rattle.dep_model.proofs.DepLemmas.{dependencies_all-to}
 use Rattle.key_listing.specs.Listing.{HoldsAnyUnlessMany, IsExchangedUnlessMany}
 use Rattle.attr_sets.proofs.AttributesLemmas.{same_at}
@@ -25,12 +25,12 @@ pub loop-dep-init : goal.loop-dep-init
 loop-dep-init c = record {
   listed = c.requires.keys;
   kept = grows_none c.args.found.now.items;
-  exchanged = exchanged_none (deps_of c.args.schema.now) c.args.found.now.items (attributes c.args.key);
+  exchanged = exchanged_none (deps_of c.args.theory.now) c.args.found.now.items (attributes c.args.key);
 }
 
 pub add_key_within-requires-clause-superkey : goal.add_key_within-requires-clause-superkey
 add_key_within-requires-clause-superkey c =
-    let s = c.args.schema.now in
+    let s = c.args.theory.now in
     let n = width_of s in
     let x = attributes c.in-Fd.lhs in
     let y = attributes c.in-Fd.rhs in
@@ -45,7 +45,7 @@ add_key_within-requires-clause-superkey c =
 
 pub loop-dep-preserved : goal.loop-dep-preserved
 loop-dep-preserved c =
-    let s = c.args.schema.now in
+    let s = c.args.theory.now in
     let n = width_of s in
     let i = c.loop-dep.dep-index in
     let k = attributes c.args.key in
@@ -72,7 +72,7 @@ loop-dep-preserved c =
 
 pub returns : goal.returns
 returns c =
-    let s = c.args.schema.now in
+    let s = c.args.theory.now in
     let all : take c.loop-dep.dep-index (deps_of s) ≡ deps_of s =
     take_all c.loop-dep.dep-index (deps_of s) (omega (arith, c.loop-dep-test.false, ap (λ (ds : List Dep). length ds) c.deps-dep-items.ensures.deps)) in
     record {

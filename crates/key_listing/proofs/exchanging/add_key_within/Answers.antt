@@ -8,7 +8,7 @@ use Rattle.attr_sets.specs.Attributes.{below, IsSubset}
 use Rattle.attr_sets.specs.Sets.{attributes}
 use Rattle.dep_model.specs.Dependencies.{functional_part}
 use Rattle.dep_model.specs.Keys.{IsKey, IsGreedyKey}
-use Rattle.dep_model.specs.Schemas.{width_of, universe_of, theory_of}
+use Rattle.dep_model.specs.Theories.{width_of, universe_of, theory_of}
 use Rattle.fd_closure.proofs.SchemaLemmas.{of_functional_part}
 use Rattle.key_listing.specs.declared.refusal.TheConstants.{MOST_KEYS}
 use Rattle.key_listing.specs.Listing.{HoldsAny, AreSomeKeys}
@@ -17,7 +17,7 @@ use Rattle.key_listing.proofs.exchanging.add_key_within.Goals as goal
 
 pub returns-in_ok-push-clause-keys : goal.returns-in_ok-push-clause-keys
 returns-in_ok-push-clause-keys c =
-    let s = c.args.schema.now in
+    let s = c.args.theory.now in
     let n = width_of s in
     let ds = theory_of s in
     let found = c.args.found.now.items in
@@ -35,7 +35,7 @@ returns-in_ok-push-clause-keys c =
 
 pub returns-in_ok-push-clause-held : goal.returns-in_ok-push-clause-held
 returns-in_ok-push-clause-held c within_limit =
-    let s = c.args.schema.now in
+    let s = c.args.theory.now in
     let n = width_of s in
     let set = attributes c.args.set in
     let k = c.functional_key.result in

@@ -8,7 +8,7 @@ use Rattle.attr_sets.specs.Attributes.{Attributes, below, IsSubset}
 use Rattle.attr_sets.specs.Sets.{attributes}
 use Rattle.dep_model.specs.Dependencies.{functional_part, IsWithin}
 use Rattle.dep_model.specs.Keys.{IsSuperkey, IsKey, IsGreedyKey}
-use Rattle.dep_model.specs.Schemas.{width_of, universe_of, theory_of, deps_of}
+use Rattle.dep_model.specs.Theories.{width_of, universe_of, theory_of, deps_of}
 use Rattle.dep_model.proofs.DepLemmas.{dependencies_all-from}
 use Rattle.dep_model.proofs.KeyLemmas.{scheme_superkey}
 use Rattle.fd_closure.proofs.SchemaLemmas.{of_functional_part}
@@ -19,7 +19,7 @@ use Rattle.key_listing.proofs.exchanging.exchanged_keys.Goals as goal
 
 pub loop-tried-init : goal.loop-tried-init
 loop-tried-init c =
-    let s = c.args.schema.now in
+    let s = c.args.theory.now in
     let n = width_of s in
     let ds = theory_of s in
     let set = attributes c.full.result in
@@ -41,13 +41,13 @@ loop-tried-init c =
 
 pub add_exchanged-requires-clause-key : goal.add_exchanged-requires-clause-key
 add_exchanged-requires-clause-key c =
-    let s = c.args.schema.now in
+    let s = c.args.theory.now in
     let lt : c.loop-tried.tried < length c.loop-tried.found.items = omega (arith, c.loop-tried-test.true, c.len.ensures, c.loop-tried.found.ok.0) in
     subst (λ (k : AttrSet). IsKey (width_of s) (theory_of s) (universe_of s) (attributes k)) (sym c.index-key.ensures) (c.loop-tried.invariant.listed.each c.loop-tried.tried _ lt)
 
 pub loop-tried-preserved : goal.loop-tried-preserved
 loop-tried-preserved c =
-    let s = c.args.schema.now in
+    let s = c.args.theory.now in
     let before = c.loop-tried.invariant in
     let old = c.loop-tried.found.items in
     let found = c.add_exchanged.new.found.items in
@@ -65,7 +65,7 @@ loop-tried-smaller c = omega (arith, c.loop-tried-test.true, c.len.ensures, c.lo
 
 pub returns : goal.returns
 returns c =
-    let s = c.args.schema.now in
+    let s = c.args.theory.now in
     let n = width_of s in
     let ds = theory_of s in
     let within : All (IsWithin (below n)) ds = dependencies_all-from (IsWithin (below n)) (deps_of s) s.valid.deps_within in

@@ -4,7 +4,7 @@ use Rattle.std.proofs.Common.{◌≡◌, ◌+◌, ◌<◌, ◌↔◌, ℕ, true,
 use Rattle.std.proofs.lemmas.Bool.{false≢true}
 use Rattle.attr_sets.specs.Sets.{attributes}
 use Rattle.attr_sets.specs.declared.set.AttrSet.{AttrSet}
-use Rattle.dep_model.specs.Schemas.{width_of, theory_of}
+use Rattle.dep_model.specs.Theories.{width_of, theory_of}
 use Rattle.key_listing.specs.Narrowing.{IsInEveryKey}
 use Rattle.key_listing.proofs.NarrowingLemmas.{member_added, member_left_out}
 use Rattle.key_listing.proofs.narrowing.attributes_in_every_key.Goals.{then-is_in_every_key, else-is_in_every_key}
@@ -12,7 +12,7 @@ use Rattle.key_listing.proofs.narrowing.attributes_in_every_key.Goals as goal
 
 pub loop-i-preserved : goal.loop-i-preserved
 loop-i-preserved c =
-    let s = c.args.schema.now in
+    let s = c.args.theory.now in
     let i = c.loop-i.i in
     let P : ℕ → Type 0 = IsInEveryKey (width_of s) (theory_of s) (attributes c.args.scheme) in
     elim c.if-is_in_every_key.branch [

@@ -3,9 +3,9 @@
 use Rattle.std.proofs.Common.{◌≡◌, ◌<◌, ℕ, true}
 use Rattle.std.specs.Prelude.{◌↔◌}
 use Rattle.attr_sets.specs.Sets.{attributes}
-use Rattle.dep_model.specs.Schemas.{width_of, theory_of}
+use Rattle.dep_model.specs.Theories.{width_of, theory_of}
 use Rattle.key_listing.specs.Narrowing.{IsInEveryKey}
 use Rattle.key_listing.proofs.narrowing.attributes_in_every_key.Given as goal
 
 abbrev pub invariant-loop-i : goal.invariant-loop-i
-invariant-loop-i l = (a : ℕ) → (attributes l.in_every_key a ≡ true) ↔ ((a < l.i) × IsInEveryKey (width_of l.schema) (theory_of l.schema) (attributes l.scheme) a)
+invariant-loop-i l = (a : ℕ) → (attributes l.in_every_key a ≡ true) ↔ ((a < l.i) × IsInEveryKey (width_of l.theory) (theory_of l.theory) (attributes l.scheme) a)

@@ -5,12 +5,12 @@ use Rattle.std.specs.Prelude.{IsTrue}
 use Rattle.attr_sets.specs.Attributes.{Attributes, only, difference}
 use Rattle.attr_sets.specs.Sets.{attributes}
 use Rattle.dep_model.specs.Keys.{IsSuperkey}
-use Rattle.dep_model.specs.Schemas.{width_of, theory_of}
+use Rattle.dep_model.specs.Theories.{width_of, theory_of}
 use Rattle.key_listing.proofs.narrowing.is_in_every_key.Goals as goal
 
 pub returns-then-contains : goal.returns-then-contains
 returns-then-contains c =
-    let s = c.args.schema.now in
+    let s = c.args.theory.now in
     let scheme = attributes c.args.scheme in
     let others : Attributes = difference scheme (only c.args.attribute) in
     let superkey : IsTrue c.is_superkey.result ↔ IsSuperkey (width_of s) (theory_of s) scheme others =

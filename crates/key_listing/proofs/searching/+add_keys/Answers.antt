@@ -5,7 +5,7 @@ use Rattle.std.specs.Prelude.{Option, IfSome, Contains}
 use Rattle.attr_sets.specs.declared.set.AttrSet.{AttrSet}
 use Rattle.attr_sets.specs.Attributes.{difference, IsSubset}
 use Rattle.attr_sets.specs.Sets.{attributes}
-use Rattle.dep_model.specs.Schemas.{width_of, theory_of}
+use Rattle.dep_model.specs.Theories.{width_of, theory_of}
 use Rattle.attr_sets.proofs.AttributesLemmas.{same_at}
 use Rattle.dep_model.proofs.FailureLemmas.{IfOk_both}
 use Rattle.key_listing.proofs.SearchLemmas.{between_none, between_one, between_both, fewer_without, fewer_with}
@@ -13,7 +13,7 @@ use Rattle.key_listing.proofs.searching.+add_keys.Goals as goal
 
 pub returns-in_default-clause-all_keys : goal.returns-in_default-clause-all_keys
 returns-in_default-clause-all_keys t c =
-    let s = c.args.schema.now in
+    let s = c.args.theory.now in
     between_none (width_of s) (theory_of s) (attributes c.args.scheme) (attributes c.args.least) (attributes c.args.most) c.requires.within_scheme c.key_within.new.found.items
     (c.in_ok-key.ensures.none (grind (arith, c.in_default.is)))
 
@@ -35,7 +35,7 @@ add_keys-requires-in-Some-first t c =
 
 pub returns-in-None-clause-all_keys : goal.returns-in-None-clause-all_keys
 returns-in-None-clause-all_keys t c =
-    let s = c.args.schema.now in
+    let s = c.args.theory.now in
     let key = c.in-Some.key in
     let found = c.key_within.new.found.items in
     let member : Contains found key = subst (λ (o : Option AttrSet). IfSome o (λ k. Contains found k)) c.in-Some.is c.in_ok-key.ensures.found in
@@ -44,7 +44,7 @@ returns-in-None-clause-all_keys t c =
 
 pub returns-in_ok-add_keys-in-Some-first-clause-all_keys : goal.returns-in_ok-add_keys-in-Some-first-clause-all_keys
 returns-in_ok-add_keys-in-Some-first-clause-all_keys t c =
-    let s = c.args.schema.now in
+    let s = c.args.theory.now in
     let n = width_of s in
     let ds = theory_of s in
     let scheme = attributes c.args.scheme in

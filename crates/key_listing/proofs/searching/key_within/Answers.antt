@@ -4,7 +4,7 @@ use Rattle.attr_sets.specs.declared.set.AttrSet.{AttrSet}
 use Rattle.attr_sets.specs.Attributes.{IsSubset, below}
 use Rattle.attr_sets.specs.Sets.{attributes}
 use Rattle.dep_model.specs.Keys.{IsSuperkey, IsKey}
-use Rattle.dep_model.specs.Schemas.{width_of, theory_of}
+use Rattle.dep_model.specs.Theories.{width_of, theory_of}
 use Rattle.dep_model.proofs.KeyLemmas.{greedy_is_key, key_of_superkey}
 use Rattle.key_listing.specs.Listing.{AreSomeKeys, HoldsAny}
 use Rattle.key_listing.proofs.FoundLemmas.{keys_more}
@@ -12,7 +12,7 @@ use Rattle.key_listing.proofs.searching.key_within.Goals as goal
 
 pub returns-clause-keys : goal.returns-clause-keys
 returns-clause-keys c =
-    let s = c.args.schema.now in
+    let s = c.args.theory.now in
     let n = width_of s in
     let ds = theory_of s in
     let scheme = attributes c.args.scheme in

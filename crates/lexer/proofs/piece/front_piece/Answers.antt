@@ -2,7 +2,7 @@
 use Rattle.std.proofs.Common.{◌∙◌, ap, take, arith}
 use Rattle.std.proofs.lemmas.List.Sums.{prefix_len-le-length}
 use Rattle.std.specs.List.{list_all}
-use Rattle.dep_model.specs.Names.{is_name_byte}
+use Rattle.schema_model.specs.Names.{is_name_byte}
 use Rattle.lexer.proofs.Runs.{run_passes}
 use Rattle.lexer.proofs.piece.front_piece.Goals as goal
 

@@ -7,7 +7,7 @@ use Rattle.std.specs.Prelude.{All}
 use Rattle.attr_sets.specs.Attributes.{below}
 use Rattle.dep_model.specs.declared.dep.Dep.{Dep}
 use Rattle.dep_model.specs.Dependencies.{IsWithin, functional_part}
-use Rattle.dep_model.specs.Schemas.{width_of, theory_of, deps_of}
+use Rattle.dep_model.specs.Theories.{width_of, theory_of, deps_of}
 use Rattle.dep_model.specs.Deps.{dependencies_of, IsDepWithin}
 use Rattle.dep_model.proofs.DepLemmas.{dependencies_all-from}
 use Rattle.min_cover.specs.Covers.{IsThinned, IsFixedWholeCover, IsMinimalCover, IsWholeCover, multivalued_part}
@@ -16,7 +16,7 @@ use Rattle.min_cover.proofs.CoverLemmas.{fixed_is_whole, whole_is_minimal}
 use Rattle.min_cover.proofs.covering.whole_cover.Goals as goal
 
 pub nonredundant_from-requires-clause-width : goal.nonredundant_from-requires-clause-width
-nonredundant_from-requires-clause-width c = omega (arith, c.width.ensures.count, c.args.schema.now.valid.names_within_limit)
+nonredundant_from-requires-clause-width c = omega (arith, c.width.ensures.count, c.args.theory.now.valid.within_limit)
 
 pub nonredundant_from-requires-clause-from : goal.nonredundant_from-requires-clause-from
 nonredundant_from-requires-clause-from c =
@@ -26,14 +26,14 @@ nonredundant_from-requires-clause-from c =
 
 pub nonredundant_from-requires-clause-within : goal.nonredundant_from-requires-clause-within
 nonredundant_from-requires-clause-within c =
-    let n = width_of c.args.schema.now in
-    let deps_in : All (IsDepWithin (below n)) c.deps.result.now = subst (λ (ds : List Dep). All (IsDepWithin (below n)) ds) (sym c.deps.ensures.deps) c.args.schema.now.valid.deps_within in
+    let n = width_of c.args.theory.now in
+    let deps_in : All (IsDepWithin (below n)) c.deps.result.now = subst (λ (ds : List Dep). All (IsDepWithin (below n)) ds) (sym c.deps.ensures.deps) c.args.theory.now.valid.deps_within in
     rw c.width.ensures.count (c.in_ok-add_multivalued.ensures.within n c.in_ok-cover.ensures.within deps_in)
 
 pub returns-clause-fixed : goal.returns-clause-fixed
 returns-clause-fixed c =
-    let n = width_of c.args.schema.now in
-    let ds = theory_of c.args.schema.now in
+    let n = width_of c.args.theory.now in
+    let ds = theory_of c.args.theory.now in
     let cover = c.in_ok-cover.cover.items in
     let others = c.add_multivalued.new.others.items in
     let from_is : c.len-from.result ≡ length cover = omega (arith, c.len-from.ensures, c.in_ok-cover.cover.ok.0) in
@@ -50,17 +50,17 @@ returns-clause-fixed c =
 
 pub returns-clause-whole_cover : goal.returns-clause-whole_cover
 returns-clause-whole_cover c =
-    let n = width_of c.args.schema.now in
-    let ds = theory_of c.args.schema.now in
-    let within = dependencies_all-from (IsWithin (below n)) (deps_of c.args.schema.now) c.args.schema.now.valid.deps_within in
+    let n = width_of c.args.theory.now in
+    let ds = theory_of c.args.theory.now in
+    let within = dependencies_all-from (IsWithin (below n)) (deps_of c.args.theory.now) c.args.theory.now.valid.deps_within in
     IfOk-weaker c.nonredundant_from.result (λ kept. IsFixedWholeCover n ds (dependencies_of kept.items)) (λ kept. IsWholeCover n ds (dependencies_of kept.items))
     (λ kept is. fixed_is_whole n ds (dependencies_of kept.items) within is) (returns-clause-fixed c)
 
 pub returns-clause-minimal : goal.returns-clause-minimal
 returns-clause-minimal c =
-    let n = width_of c.args.schema.now in
-    let ds = theory_of c.args.schema.now in
-    let within = dependencies_all-from (IsWithin (below n)) (deps_of c.args.schema.now) c.args.schema.now.valid.deps_within in
+    let n = width_of c.args.theory.now in
+    let ds = theory_of c.args.theory.now in
+    let within = dependencies_all-from (IsWithin (below n)) (deps_of c.args.theory.now) c.args.theory.now.valid.deps_within in
     IfOk-weaker c.nonredundant_from.result (λ kept. IsFixedWholeCover n ds (dependencies_of kept.items))
     (λ kept. IsMinimalCover n ds (functional_part (dependencies_of kept.items)))
     (λ kept is. whole_is_minimal n ds (dependencies_of kept.items) within is) (returns-clause-fixed c)

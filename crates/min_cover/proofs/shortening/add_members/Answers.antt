@@ -10,7 +10,7 @@ use Rattle.dep_model.specs.declared.dep.Dep.{Dep}
 use Rattle.dep_model.specs.declared.dep.Dep.TheVariants.{Fd}
 use Rattle.dep_model.specs.Deps.{dependencies_of, IsDepWithin}
 use Rattle.dep_model.specs.Dependencies.{Dependency, fd}
-use Rattle.dep_model.specs.Schemas.{width_of, theory_of}
+use Rattle.dep_model.specs.Theories.{width_of, theory_of}
 use Rattle.dep_model.specs.Projections.{members_below}
 use Rattle.min_cover.specs.Members.{IsLeftReduced, IsLeftReducedDependency, AreLeftReduced}
 use Rattle.attr_sets.proofs.AttributesLemmas.{same_at}
@@ -25,7 +25,7 @@ loop-a-init c firsts before =
     let z = difference (attributes c.args.rhs) x in
     let none : firsts ++ map (λ (a : ℕ). fd x (only a)) (members_below 0 z) ≡ firsts =
     ap (λ (l : List ℕ). firsts ++ map (λ (a : ℕ). fd x (only a)) l) (members_below-none z) ∙ append-nil firsts in
-    subst (λ (es : List Dependency). AreLeftReduced (width_of c.args.schema.now) (theory_of c.args.schema.now) es c.args.members.now.items) (sym none) before
+    subst (λ (es : List Dependency). AreLeftReduced (width_of c.args.theory.now) (theory_of c.args.theory.now) es c.args.members.now.items) (sym none) before
 
 -- one attribute more
 members-take : (firsts : List Dependency) (x z : Attributes) (a : ℕ) → z a ≡ true
@@ -38,7 +38,7 @@ members-take firsts x z a member =
 
 pub loop-a-preserved : goal.loop-a-preserved
 loop-a-preserved c firsts before =
-    let s = c.args.schema.now in
+    let s = c.args.theory.now in
     let n = width_of s in
     let x = attributes c.args.lhs in
     let z = difference (attributes c.args.rhs) x in
@@ -73,9 +73,9 @@ loop-a-preserved c firsts before =
 pub returns : goal.returns
 returns c = record {
   left_reduced = λ firsts before.
-      let all : c.loop-a.a ≡ width_of c.args.schema.now = omega (arith, c.loop-a-test.false, c.loop-a.auto.a-end, c.width-a-end.ensures.count) in
+      let all : c.loop-a.a ≡ width_of c.args.theory.now = omega (arith, c.loop-a-test.false, c.loop-a.auto.a-end, c.width-a-end.ensures.count) in
       let x = attributes c.args.lhs in
       let z = difference (attributes c.args.rhs) x in
-      subst (λ (n : ℕ). AreLeftReduced (width_of c.args.schema.now) (theory_of c.args.schema.now) (firsts ++ map (λ (a : ℕ). fd x (only a)) (members_below n z)) c.loop-a.members.items) all
+      subst (λ (n : ℕ). AreLeftReduced (width_of c.args.theory.now) (theory_of c.args.theory.now) (firsts ++ map (λ (a : ℕ). fd x (only a)) (members_below n z)) c.loop-a.members.items) all
       (c.loop-a.invariant firsts before);
 }

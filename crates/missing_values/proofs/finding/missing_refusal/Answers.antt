@@ -3,7 +3,7 @@
 use Rattle.std.proofs.Common.{get_or, None, sym, ◌∙◌, arith}
 use Rattle.std.proofs.lemmas.Option.{slice_get-get_or}
 use Rattle.attr_sets.specs.Sets.{attributes}
-use Rattle.dep_model.specs.Schemas.{nullable_of}
+use Rattle.schema_model.specs.Schemas.{nullable_of}
 use Rattle.missing_values.proofs.FindingLemmas.{nothing_before, one_more_before, one_more_fine, past_is_fine, found_first, fine_here, found_within}
 use Rattle.missing_values.proofs.finding.missing_refusal.Goals as goal
 

@@ -5,7 +5,7 @@ use Rattle.dep_model.specs.Dependencies.{IsWithin}
 use Rattle.dep_model.proofs.DepLemmas.{dependencies_all-to}
 use Rattle.row_groups.specs.Interning.{IsInterned}
 use Rattle.dep_model.specs.Tuples.{Relation}
-use Rattle.near_rules.specs.Searching.{AreFoundBefore, AreSought}
+use Rattle.near_rules.specs.Searching.{AreNearFoundBefore, AreSought}
 use Rattle.near_rules.specs.declared.found.Sought.{Sought}
 use Rattle.dep_model.specs.Deps.{dependencies_of, dependency_of}
 use Rattle.std.proofs.lemmas.List.{length-map}
@@ -25,7 +25,7 @@ front c =
     let (count, low, is) = c.in_ok-first.ensures.rows in
     (count, low, subst (λ (rows : Relation). IsInterned c.args.width rows c.in_ok-front.front) is c.in_ok-front.ensures.codes)
 
-found : (c : In-Ok) → AreFoundBefore (sought c) c.args.rows.now (below c.args.width) c.args.width c.in-Ok.found
+found : (c : In-Ok) → AreNearFoundBefore (sought c) c.args.rows.now (below c.args.width) c.args.width c.in-Ok.found
 unfolding sought
 found c =
     let are : AreSought c.args.rows.now (sought c) =

@@ -5,7 +5,7 @@ use Rattle.attr_sets.specs.Attributes.{IsEmpty, count_below}
 use Rattle.attr_sets.specs.Sets.{attributes}
 use Rattle.attr_sets.proofs.AttributesLemmas.{count_below-none, same_at}
 use Rattle.dep_model.specs.Tuples.{Relation}
-use Rattle.near_rules.specs.Searching.{AreFoundBefore, AreGrouped, AreSought}
+use Rattle.near_rules.specs.Searching.{AreNearFoundBefore, AreGrouped, AreSought}
 use Rattle.near_rules.proofs.WholeLemmas.{all_wanted, start, whole_set}
 use Rattle.near_rules.proofs.finding.search.Goals as goal
 use Rattle.near_rules.proofs.finding.search.Goals.{In_ok-found}
@@ -19,7 +19,7 @@ grouped c r sought = record {
   firsts = c.in_ok-groups.ensures.firsts c.args.sought.now.width r sought.interned;
 }
 
-started : (c : In_ok-found) (r : Relation) → AreFoundBefore c.args.sought.now r (attributes c.empty-none.result) 0 c.in_ok-found.found
+started : (c : In_ok-found) (r : Relation) → AreNearFoundBefore c.args.sought.now r (attributes c.empty-none.result) 0 c.in_ok-found.found
 started c r = start c.args.sought.now r (attributes c.empty-none.result) c.in_ok-found.found (is_empty c) c.in_ok-found.ensures.deps
     c.in_ok-found.ensures.errors c.in_ok-found.ensures.tried
 

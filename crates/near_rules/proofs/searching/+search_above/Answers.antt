@@ -13,7 +13,7 @@ use Rattle.dep_model.specs.Deps.{dependencies_of}
 use Rattle.dep_model.specs.Tuples.{Relation}
 use Rattle.fd_discovery.specs.Searching.{AreUndetermined}
 use Rattle.fd_discovery.proofs.SearchLemmas.{larger_above, larger_in}
-use Rattle.near_rules.specs.Searching.{AreFoundBefore, AreGrouped, AreSought}
+use Rattle.near_rules.specs.Searching.{AreNearFoundBefore, AreGrouped, AreSought}
 use Rattle.near_rules.specs.declared.found.Sought.{Sought}
 use Rattle.near_rules.proofs.FrontLemmas.{at_larger, larger_few, past_full, past_larger, through_larger}
 use Rattle.near_rules.proofs.searching.+search_above.Goals as goal
@@ -33,7 +33,7 @@ returns-then-len-sought-clause-found t c r sought grouped before =
 pub loop-attribute-init : goal.loop-attribute-init
 loop-attribute-init t c = record {
   found = λ r sought grouped before.
-      subst (λ (v : Attributes). AreFoundBefore c.args.sought.now r v c.args.sought.now.rights c.args.found.now)
+      subst (λ (v : Attributes). AreNearFoundBefore c.args.sought.now r v c.args.sought.now.rights c.args.found.now)
       (fun_ext (λ k. none_more k)) before;
 }
   where
@@ -123,7 +123,7 @@ loop-attribute-preserved t c =
     let i : ℕ = c.loop-attribute.attribute in
     let set : Attributes = attributes c.args.set in
     let larger : Attributes = attributes c.with-larger.result in
-    let at = λ (r : Relation) (before : AreFoundBefore s r (union set (below i)) s.rights c.loop-attribute.found).
+    let at = λ (r : Relation) (before : AreNearFoundBefore s r (union set (below i)) s.rights c.loop-attribute.found).
     at_larger s r c.args.bound i set c.requires.set c.requires.above c.requires.bound c.loop-attribute-test.true
     larger c.with-larger.ensures.members c.loop-attribute.found before in
     elim c.if-not-is_empty.branch [
@@ -135,7 +135,7 @@ loop-attribute-preserved t c =
                   (w.in_ok-finer.ensures.groups s.width r set sought.interned grouped.by_set);
               firsts = w.in_ok-finer.ensures.firsts s.width r set sought.interned grouped.by_set;
             } in
-            subst (AreFoundBefore s r (union set (below (i + 1))) s.rights) (sym w.found-is)
+            subst (AreNearFoundBefore s r (union set (below (i + 1))) s.rights) (sym w.found-is)
             (through_larger s r c.args.bound i set c.requires.set c.requires.above c.requires.bound c.loop-attribute-test.true larger
             c.with-larger.ensures.members _
             (w.in_ok-search_above.ensures.found r sought finer (w.in_ok-try_set.ensures.found r sought finer
@@ -145,7 +145,7 @@ loop-attribute-preserved t c =
           let yes : c.is_empty.result ≡ true = grind (arith, w.if-not-is_empty.false) in
           record {
             found = λ r sought grouped before.
-                subst (AreFoundBefore s r (union set (below (i + 1))) s.rights) (sym w.found-is)
+                subst (AreNearFoundBefore s r (union set (below (i + 1))) s.rights) (sym w.found-is)
                 (past_larger s r c.args.bound i set c.requires.set c.requires.above c.requires.bound c.loop-attribute-test.true larger
                 c.with-larger.ensures.members c.loop-attribute.found (attributes c.attributes_not_given-wanted.result)
                 (at r (c.loop-attribute.invariant.found r sought grouped before))
@@ -159,5 +159,5 @@ pub returns-clause-found : goal.returns-clause-found
 returns-clause-found t c r sought grouped before =
     let end : c.loop-attribute.attribute ≡ c.args.bound =
     omega (arith, c.loop-attribute-test.false, c.loop-attribute.auto.attribute-end) in
-    subst (λ (i : ℕ). AreFoundBefore c.args.sought.now r (union (attributes c.args.set) (below i)) c.args.sought.now.rights c.loop-attribute.found) end
+    subst (λ (i : ℕ). AreNearFoundBefore c.args.sought.now r (union (attributes c.args.set) (below i)) c.args.sought.now.rights c.loop-attribute.found) end
     (c.loop-attribute.invariant.found r sought grouped before)

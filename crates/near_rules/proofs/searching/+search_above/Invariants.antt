@@ -3,7 +3,7 @@
 use Rattle.attr_sets.specs.Attributes.{union, below}
 use Rattle.attr_sets.specs.Sets.{attributes}
 use Rattle.dep_model.specs.Tuples.{Relation}
-use Rattle.near_rules.specs.Searching.{AreFoundUpTo, AreGrouped, AreSought}
+use Rattle.near_rules.specs.Searching.{AreNearFoundUpTo, AreGrouped, AreSought}
 use Rattle.near_rules.proofs.searching.+search_above.Given as goal
 
 abbrev pub decreases-search_above : goal.decreases-search_above
@@ -12,6 +12,6 @@ decreases-search_above l = l.bound
 abbrev pub invariant-loop-attribute : goal.invariant-loop-attribute
 invariant-loop-attribute l = record {
   found : (r : Relation) → AreSought r l.sought → AreGrouped r (attributes l.set) l.groups
-      → AreFoundUpTo l.sought r (attributes l.set) l.fn.found
-      → AreFoundUpTo l.sought r (union (attributes l.set) (below l.attribute)) l.found;
+      → AreNearFoundUpTo l.sought r (attributes l.set) l.fn.found
+      → AreNearFoundUpTo l.sought r (union (attributes l.set) (below l.attribute)) l.found;
 }

@@ -5,7 +5,7 @@ use Rattle.std.proofs.lemmas.Result.{err_from_is_err_and}
 use Rattle.attr_sets.specs.Attributes.{Attributes}
 use Rattle.attr_sets.specs.Sets.{attributes}
 use Rattle.dep_model.specs.declared.dep.Dep.{Dep}
-use Rattle.near_rules.specs.Searching.{AreFoundBefore}
+use Rattle.near_rules.specs.Searching.{AreNearFoundBefore}
 use Rattle.near_rules.specs.declared.found.Found.{Found}
 use Rattle.near_rules.specs.declared.found.Sought.{Sought}
 use Rattle.near_rules.proofs.FrontLemmas.{kept_listed, passed, unwanted, wanted_must}
@@ -31,7 +31,7 @@ loop-attribute-preserved c =
           let has : wanted a ≡ true = sym c.contains.ensures.member ∙ w.if-contains.true in
           let (added, is) = w.in_ok-try_right.ensures.kept in
           record {
-            found = λ r sought grouped before. subst (AreFoundBefore s r set (a + 1)) (sym w.found-is)
+            found = λ r sought grouped before. subst (AreNearFoundBefore s r set (a + 1)) (sym w.found-is)
                 (w.in_ok-try_right.ensures.found r sought grouped (c.loop-attribute.invariant.found r sought grouped before)
                 (wanted_must s r set wanted c.args.found.now a before c.requires.wanted c.requires.set c.requires.few
                 c.loop-attribute-test.true has));
@@ -44,7 +44,7 @@ loop-attribute-preserved c =
       | else-contains w ↦
           let lacks : wanted a ≡ false = sym c.contains.ensures.member ∙ w.if-contains.false in
           record {
-            found = λ r sought grouped before. subst (AreFoundBefore s r set (a + 1)) (sym w.found-is)
+            found = λ r sought grouped before. subst (AreNearFoundBefore s r set (a + 1)) (sym w.found-is)
                 (let rest = unwanted s r set wanted c.args.found.now a before c.requires.wanted c.loop-attribute-test.true lacks in
                 passed s r set a c.loop-attribute.found (c.loop-attribute.invariant.found r sought grouped before) rest.0
                 (λ out. kept_listed c.args.found.now.deps.items more c.loop-attribute.found.deps.items kept set a (rest.1 out)));
@@ -56,5 +56,5 @@ pub returns-clause-found : goal.returns-clause-found
 returns-clause-found c r sought grouped before =
     let end : c.loop-attribute.attribute ≡ c.args.sought.now.rights =
     omega (arith, c.loop-attribute-test.false, c.loop-attribute.auto.attribute-end) in
-    subst (λ (a : ℕ). AreFoundBefore c.args.sought.now r (attributes c.args.set) a c.loop-attribute.found) end
+    subst (λ (a : ℕ). AreNearFoundBefore c.args.sought.now r (attributes c.args.set) a c.loop-attribute.found) end
     (c.loop-attribute.invariant.found r sought grouped before)

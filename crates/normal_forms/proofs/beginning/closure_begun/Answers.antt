@@ -1,16 +1,16 @@
 -- What is left to prove of `closure_begun`: its clause `closure`, by `closure_of_begun`.
 use Rattle.attr_sets.specs.Sets.{attributes}
-use Rattle.dep_model.specs.Schemas.{width_of}
+use Rattle.dep_model.specs.Theories.{width_of}
 use Rattle.normal_forms.specs.Passing.{theory_by}
 use Rattle.normal_forms.proofs.BeginLemmas.{closure_of_begun}
 use Rattle.normal_forms.proofs.beginning.closure_begun.Goals as goal
 
 pub closed_set-requires : goal.closed_set-requires
-closed_set-requires c = record { lhs = (c.begun.ensures.begun c.args.functional c.args.schema.now c.requires.part c.requires.set).within }
+closed_set-requires c = record { lhs = (c.begun.ensures.begun c.args.functional c.args.theory.now c.requires.part c.requires.set).within }
 
 pub returns : goal.returns
 returns c =
-    let s = c.args.schema.now in
+    let s = c.args.theory.now in
     let by = c.args.functional in
     let begun = c.begun.ensures.begun by s c.requires.part c.requires.set in
     record {

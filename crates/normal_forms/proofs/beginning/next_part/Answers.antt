@@ -9,5 +9,5 @@ closed_set-closed-requires c = record { lhs = λ k m. c.requires.set k (grind (a
 
 pub returns : goal.returns
 returns c = record {
-  known = known_closure c.args.functional c.args.schema.now (record { set = c.difference-fixed.result; closed = c.closed_set-closed.result }) c.closed_set-closed.ensures.closure;
+  known = known_closure c.args.functional c.args.theory.now (record { set = c.difference-fixed.result; closed = c.closed_set-closed.result }) c.closed_set-closed.ensures.closure;
 }

@@ -7,8 +7,8 @@ use Rattle.attr_sets.specs.Sets.{attributes}
 use Rattle.dep_model.specs.Dependencies.{Dependency, fd, IsWithin}
 use Rattle.dep_model.specs.Implication.{Implies}
 use Rattle.dep_model.specs.Keys.{InClosure}
-use Rattle.dep_model.specs.Schemas.{width_of, theory_of, deps_of}
-use Rattle.dep_model.specs.declared.schema.Schema.{Schema}
+use Rattle.dep_model.specs.Theories.{width_of, theory_of, deps_of}
+use Rattle.dep_model.specs.Theories.{Theory}
 use Rattle.dep_model.proofs.DepLemmas.{dependencies_all-from}
 use Rattle.dep_model.proofs.KeyLemmas.{superkey-from}
 use Rattle.dep_model.proofs.RuleLemmas.{fd_weaker_obeyed}
@@ -20,7 +20,7 @@ use Rattle.normal_forms.proofs.BreakLemmas.{IsTrue-not, superkey_closed, closed_
 use Rattle.normal_forms.proofs.breaking.breaks.Goals as goal
 
 -- a closure by the dependencies that a search goes by
-exact_by : (s : Schema) (functional known : Bool) (x closed : Attributes) → functional ≡ known
+exact_by : (s : Theory) (functional known : Bool) (x closed : Attributes) → functional ≡ known
     → ((a : ℕ) → (closed a ≡ true) ↔ InClosure (width_of s) (theory_by functional s) x a)
     → (a : ℕ) → (closed a ≡ true) ↔ InClosure (width_of s) (theory_by known s) x a
 exact_by s functional known x closed same exact =
@@ -28,7 +28,7 @@ exact_by s functional known x closed same exact =
 
 pub returns-then-functional : goal.returns-then-functional
 returns-then-functional c =
-    let s = c.args.schema.now in
+    let s = c.args.theory.now in
     let n = width_of s in
     let x = attributes c.args.lhs in
     let scheme = attributes c.args.scheme in
@@ -42,7 +42,7 @@ returns-then-functional c =
 
 pub returns-then-is_subset : goal.returns-then-is_subset
 returns-then-is_subset c =
-    let s = c.args.schema.now in
+    let s = c.args.theory.now in
     let n = width_of s in
     let ds = theory_of s in
     let by = c.args.functional in
@@ -57,7 +57,7 @@ returns-then-is_subset c =
 
 pub returns-then-not-has_two_parts : goal.returns-then-not-has_two_parts
 returns-then-not-has_two_parts c =
-    let s = c.args.schema.now in
+    let s = c.args.theory.now in
     record {
       breaks = (
         (λ e. absurd (false≢true e)),
@@ -68,7 +68,7 @@ returns-then-not-has_two_parts c =
 
 pub returns-in-Fourth : goal.returns-in-Fourth
 returns-in-Fourth c =
-    let s = c.args.schema.now in
+    let s = c.args.theory.now in
     let n = width_of s in
     let ds = theory_of s in
     let x = attributes c.args.lhs in
@@ -82,7 +82,7 @@ returns-in-Fourth c =
 
 pub returns-in-Third : goal.returns-in-Third
 returns-in-Third c =
-    let s = c.args.schema.now in
+    let s = c.args.theory.now in
     let n = width_of s in
     let ds = theory_of s in
     let x = attributes c.args.lhs in

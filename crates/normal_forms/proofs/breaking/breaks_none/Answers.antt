@@ -4,7 +4,7 @@ use Rattle.std.specs.Prelude.{IsTrue}
 use Rattle.attr_sets.specs.Attributes.{Attributes, below}
 use Rattle.attr_sets.specs.Sets.{attributes}
 use Rattle.dep_model.specs.Dependencies.{Dependency, IsWithin}
-use Rattle.dep_model.specs.Schemas.{width_of, theory_of, deps_of}
+use Rattle.dep_model.specs.Theories.{width_of, theory_of, deps_of}
 use Rattle.dep_model.proofs.DepLemmas.{dependencies_all-from}
 use Rattle.dep_model.specs.declared.form.Form.{Form}
 use Rattle.dep_model.specs.declared.form.Form.TheVariants.{Bcnf}
@@ -15,7 +15,7 @@ use Rattle.normal_forms.proofs.breaking.breaks_none.Goals as goal
 
 pub returns-then-functional : goal.returns-then-functional
 returns-then-functional c =
-    let s = c.args.schema.now in
+    let s = c.args.theory.now in
     let n = width_of s in
     let scheme = attributes c.args.scheme in
     let same = c.requires.functional c.if-functional.true in
@@ -27,7 +27,7 @@ returns-then-functional c =
 
 pub returns-in-Fourth : goal.returns-in-Fourth
 returns-in-Fourth c =
-    let s = c.args.schema.now in
+    let s = c.args.theory.now in
     record {
       none = subst (λ (f : Form). IsTrue c.parts_none.result → (x : Attributes) → LiesBetween (attributes c.args.least) (attributes c.args.most) x → Breaks (width_of s) (theory_of s) f (attributes c.args.scheme) x → ⊥)
           (sym c.in-Fourth.is) c.parts_none.ensures.none;
@@ -35,7 +35,7 @@ returns-in-Fourth c =
 
 pub returns-in-Third : goal.returns-in-Third
 returns-in-Third c =
-    let s = c.args.schema.now in
+    let s = c.args.theory.now in
     record {
       none = subst (λ (f : Form). IsTrue c.determines_none-in-Third.result → (x : Attributes) → LiesBetween (attributes c.args.least) (attributes c.args.most) x → Breaks (width_of s) (theory_of s) f (attributes c.args.scheme) x → ⊥)
           (sym (is_bcnf c.args.form c.requires.form c.in-Third.is)) c.determines_none-in-Third.ensures.none;

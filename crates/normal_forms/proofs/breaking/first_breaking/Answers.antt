@@ -7,21 +7,21 @@ use Rattle.std.specs.Prelude.{Option, Some}
 use Rattle.attr_sets.specs.declared.set.AttrSet.{AttrSet}
 use Rattle.attr_sets.specs.Attributes.{below, IsSubset}
 use Rattle.attr_sets.specs.Sets.{attributes}
-use Rattle.dep_model.specs.Schemas.{width_of, theory_of}
+use Rattle.dep_model.specs.Theories.{width_of, theory_of}
 use Rattle.normal_forms.specs.Breaking.{Breaks}
 use Rattle.normal_forms.proofs.SearchLemmas.{IsSearched, search_start, search_past, search_on, search_end, passed_less}
 use Rattle.normal_forms.proofs.breaking.first_breaking.Goals as goal
 use Rattle.normal_forms.proofs.breaking.first_breaking.Goals.{In-Some}
 
 -- the subsets before the one that is tried
-searched : (c : In-Some) → IsSearched (Breaks (width_of c.args.schema.now) (theory_of c.args.schema.now) c.args.form (attributes c.args.scheme)) (attributes c.args.whole) (Some c.in-Some.set)
+searched : (c : In-Some) → IsSearched (Breaks (width_of c.args.theory.now) (theory_of c.args.theory.now) c.args.form (attributes c.args.scheme)) (attributes c.args.whole) (Some c.in-Some.set)
 searched c =
-    let s = c.args.schema.now in
+    let s = c.args.theory.now in
     subst (λ (o : Option AttrSet). IsSearched (Breaks (width_of s) (theory_of s) c.args.form (attributes c.args.scheme)) (attributes c.args.whole) o) c.in-Some.is c.loop-next.invariant.searched
 
 pub loop-next-init : goal.loop-next-init
 loop-next-init c =
-    let s = c.args.schema.now in
+    let s = c.args.theory.now in
     record {
       part = c.no_part-part.ensures.known c.args.functional s;
       searched = search_start (Breaks (width_of s) (theory_of s) c.args.form (attributes c.args.scheme)) (attributes c.args.whole) c.empty.result c.empty.ensures.members;
@@ -57,7 +57,7 @@ loop-next-smaller c = passed_less c.in-Some.set c.passed.result c.loop-next.next
 
 pub loop-next-preserved : goal.loop-next-preserved
 loop-next-preserved c =
-    let s = c.args.schema.now in
+    let s = c.args.theory.now in
     let P = Breaks (width_of s) (theory_of s) c.args.form (attributes c.args.scheme) in
     let before = searched (goal.at.loop-next-preserved c).In-Some in
     let low : IsSubset (attributes c.args.whole) (below (width_of s)) = λ k m. c.requires.scheme k (c.requires.within_scheme k m) in
@@ -70,6 +70,6 @@ loop-next-preserved c =
 
 pub returns-clause-none : goal.returns-clause-none
 returns-clause-none c = λ _.
-    let s = c.args.schema.now in
+    let s = c.args.theory.now in
     let P = Breaks (width_of s) (theory_of s) c.args.form (attributes c.args.scheme) in
     search_end P (attributes c.args.whole) (subst (λ (o : Option AttrSet). IsSearched P (attributes c.args.whole) o) c.in_default.is c.loop-next.invariant.searched)

@@ -6,7 +6,7 @@ use Rattle.std.proofs.lemmas.Bool.Decides.{nat_tests}
 use Rattle.attr_sets.specs.Attributes.{Attributes, difference, IsFirstFrom}
 use Rattle.attr_sets.specs.Sets.{attributes}
 use Rattle.dep_model.specs.Keys.{IsPartOn}
-use Rattle.dep_model.specs.Schemas.{width_of, theory_of, deps_of}
+use Rattle.dep_model.specs.Theories.{width_of, theory_of, deps_of}
 use Rattle.attr_sets.proofs.AttributesLemmas.{same_at}
 use Rattle.dep_basis.proofs.DecidingLemmas.{least_same}
 use Rattle.normal_forms.proofs.PartLemmas.{part_of_block, part_of_one}
@@ -35,7 +35,7 @@ returns-in-None-clause-first c a least =
 
 pub returns-in-Some-block-clause-part : goal.returns-in-Some-block-clause-part
 returns-in-Some-block-clause-part c _ =
-    let s = c.args.schema.now in
+    let s = c.args.theory.now in
     let n = width_of s in
     let scheme = attributes c.args.scheme in
     let x = attributes c.args.lhs in
@@ -47,7 +47,7 @@ returns-in-Some-block-clause-part c _ =
 
 pub returns-in-None-clause-part : goal.returns-in-None-clause-part
 returns-in-None-clause-part c _ =
-    let s = c.args.schema.now in
+    let s = c.args.theory.now in
     let n = width_of s in
     let scheme = attributes c.args.scheme in
     let x = attributes c.args.lhs in

@@ -1,6 +1,6 @@
 -- What is left to prove of `passed`: what it answers, case by case, by `passes_none`.
 use Rattle.attr_sets.specs.Sets.{attributes}
-use Rattle.dep_model.specs.Schemas.{width_of, theory_of}
+use Rattle.dep_model.specs.Theories.{width_of, theory_of}
 use Rattle.normal_forms.specs.Breaking.{Breaks}
 use Rattle.normal_forms.proofs.PassLemmas.{passes_none}
 use Rattle.normal_forms.proofs.breaking.passed.Goals as goal
@@ -10,7 +10,7 @@ breaks_none-passes-requires-clause-most c k m = c.requires.within_scheme k (c.fi
 
 pub returns-then-few : goal.returns-then-few
 returns-then-few c =
-    let s = c.args.schema.now in
+    let s = c.args.theory.now in
     record {
       holds = λ k m. m;
       within = c.requires.set;
@@ -26,7 +26,7 @@ returns-then-passes c = record {
 
 pub returns-else-passes : goal.returns-else-passes
 returns-else-passes c =
-    let s = c.args.schema.now in
+    let s = c.args.theory.now in
     record {
       holds = λ k m. m;
       within = c.requires.set;

@@ -3,7 +3,7 @@
 use Rattle.std.proofs.Common.{sym, subst, ◌∙◌}
 use Rattle.std.proofs.lemmas.Bool.{true≢false}
 use Rattle.attr_sets.specs.Sets.{attributes}
-use Rattle.dep_model.specs.Schemas.{width_of, theory_of, deps_of}
+use Rattle.dep_model.specs.Theories.{width_of, theory_of, deps_of}
 use Rattle.dep_model.specs.declared.form.Form.{Form}
 use Rattle.dep_model.specs.declared.form.Form.TheVariants.{Bcnf, Fourth}
 use Rattle.normal_forms.specs.Violations.{ViolatesBcnf, ViolatesFourth, Violates}
@@ -13,7 +13,7 @@ use Rattle.normal_forms.proofs.breaking.right_side.Goals as goal
 
 pub returns-in-Fourth : goal.returns-in-Fourth
 returns-in-Fourth c =
-    let s = c.args.schema.now in
+    let s = c.args.theory.now in
     let n = width_of s in
     let ds = theory_of s in
     let scheme = attributes c.args.scheme in
@@ -21,12 +21,12 @@ returns-in-Fourth c =
     let y = attributes c.first_part.result in
     let b : Breaks n ds Fourth scheme x = subst (λ (f : Form). Breaks n ds f scheme x) c.in-Fourth.is c.requires.breaks in
     let part = c.first_part.ensures.part (λ nothing. true≢false (sym b.1.not_empty.1 ∙ nothing b.1.not_empty.0)) in
-    let violated : ViolatesFourth n ds scheme x y = fourth_violated n (deps_of s) scheme x y s.valid.names_within_limit s.valid.deps_within c.requires.scheme b part c.first_part.ensures.first in
+    let violated : ViolatesFourth n ds scheme x y = fourth_violated n (deps_of s) scheme x y s.valid.within_limit s.valid.deps_within c.requires.scheme b part c.first_part.ensures.first in
     record { violates = subst (λ (f : Form). Violates n ds f scheme x y) (sym c.in-Fourth.is) violated }
 
 pub returns-in-Third : goal.returns-in-Third
 returns-in-Third c =
-    let s = c.args.schema.now in
+    let s = c.args.theory.now in
     let n = width_of s in
     let ds = theory_of s in
     let scheme = attributes c.args.scheme in

@@ -5,7 +5,7 @@ use Rattle.attr_sets.specs.Sets.{attributes}
 use Rattle.dep_model.specs.declared.dep.Dep.{Dep}
 use Rattle.dep_model.specs.Dependencies.{functional_part}
 use Rattle.dep_model.specs.Deps.{dependencies_of}
-use Rattle.dep_model.specs.Schemas.{width_of, theory_of, deps_of}
+use Rattle.dep_model.specs.Theories.{width_of, theory_of, deps_of}
 use Rattle.attr_sets.proofs.AttributesLemmas.{same_at}
 use Rattle.fd_closure.specs.LeftSides.{InLeftSideWithin}
 use Rattle.fd_closure.proofs.SchemaLemmas.{functional_closure_of_schema}
@@ -15,7 +15,7 @@ use Rattle.normal_forms.proofs.narrowing.functionally_searched_attributes.Goals 
 
 pub returns : goal.returns
 returns c =
-    let s = c.args.schema.now in
+    let s = c.args.theory.now in
     let n = width_of s in
     let fs = functional_part (theory_of s) in
     let scheme = attributes c.args.scheme in

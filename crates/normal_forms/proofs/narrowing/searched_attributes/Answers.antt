@@ -6,7 +6,7 @@ use Rattle.attr_sets.specs.Sets.{attributes}
 use Rattle.dep_model.specs.declared.dep.Dep.{Dep}
 use Rattle.dep_model.specs.Dependencies.{Dependency, left_of, IsWithin}
 use Rattle.dep_model.specs.Deps.{dependencies_of}
-use Rattle.dep_model.specs.Schemas.{width_of, theory_of, deps_of}
+use Rattle.dep_model.specs.Theories.{width_of, theory_of, deps_of}
 use Rattle.dep_model.proofs.DepLemmas.{dependencies_all-to, dependencies_all-from}
 use Rattle.fd_closure.specs.LeftSides.{left_sides, InLeftSide}
 use Rattle.fd_closure.proofs.LeftSideLemmas.{left_sides_each}
@@ -17,7 +17,7 @@ use Rattle.normal_forms.proofs.narrowing.searched_attributes.Goals as goal
 
 pub returns-then-functional : goal.returns-then-functional
 returns-then-functional c =
-    let s = c.args.schema.now in
+    let s = c.args.theory.now in
     let n = width_of s in
     let scheme = attributes c.args.scheme in
     let whole = attributes c.functionally_searched_attributes.result in
@@ -31,7 +31,7 @@ returns-then-functional c =
 
 pub returns-else-functional : goal.returns-else-functional
 returns-else-functional c =
-    let s = c.args.schema.now in
+    let s = c.args.theory.now in
     let n = width_of s in
     let scheme = attributes c.args.scheme in
     let lefts = attributes c.left_attributes.result in
@@ -41,5 +41,5 @@ returns-else-functional c =
     record {
       within = λ k m. grind (arith, same_at c.intersection.ensures.members k, m);
       sides = λ k m. sym (same_at all_sides k) ∙ grind (arith, same_at c.intersection.ensures.members k, m);
-      enough = all_enough n (deps_of s) c.args.form scheme lefts (attributes c.intersection.result) c.requires.form s.valid.names_within_limit s.valid.deps_within c.requires.scheme each c.intersection.ensures.members;
+      enough = all_enough n (deps_of s) c.args.form scheme lefts (attributes c.intersection.result) c.requires.form s.valid.within_limit s.valid.deps_within c.requires.scheme each c.intersection.ensures.members;
     }

@@ -6,13 +6,13 @@ use Rattle.attr_sets.specs.Attributes.{only, difference}
 use Rattle.attr_sets.specs.Sets.{attributes}
 use Rattle.attr_sets.specs.declared.set.TheConstants.{MOST_ATTRIBUTES}
 use Rattle.attr_sets.proofs.AttributesLemmas.{attributes_below}
-use Rattle.dep_model.specs.Schemas.{width_of, theory_of}
+use Rattle.dep_model.specs.Theories.{width_of, theory_of}
 use Rattle.dep_basis.specs.Parts.{HasTwoParts}
 use Rattle.normal_forms.proofs.parting.has_no_parts_about.Goals as goal
 
 pub loop-i-preserved : goal.loop-i-preserved
 loop-i-preserved c a less member out parts =
-    let s = c.args.schema.now in
+    let s = c.args.theory.now in
     elim (cases_eq a c.loop-i.i) [
       | inl same ↦ false≢true (sym c.if-has_parts_without.false ∙ c.has_parts_without.ensures.parts.1 (
         ap (attributes c.args.most) (sym same) ∙ member,

@@ -3,11 +3,11 @@
 use Rattle.std.proofs.Common.{◌≡◌, ◌<◌, ℕ, true, false}
 use Rattle.attr_sets.specs.Attributes.{only, difference}
 use Rattle.attr_sets.specs.Sets.{attributes}
-use Rattle.dep_model.specs.Schemas.{width_of, theory_of}
+use Rattle.dep_model.specs.Theories.{width_of, theory_of}
 use Rattle.dep_basis.specs.Parts.{HasTwoParts}
 use Rattle.normal_forms.proofs.parting.has_no_parts_about.Given as goal
 
 abbrev pub invariant-loop-i : goal.invariant-loop-i
 invariant-loop-i l =
     (a : ℕ) → a < l.i → attributes l.most a ≡ true → attributes l.least a ≡ false
-    → HasTwoParts (width_of l.schema) (theory_of l.schema) (attributes l.scheme) (difference (attributes l.most) (only a)) → ⊥
+    → HasTwoParts (width_of l.theory) (theory_of l.theory) (attributes l.scheme) (difference (attributes l.most) (only a)) → ⊥

@@ -4,7 +4,7 @@ use Rattle.std.proofs.lemmas.Bool.{true≢false, false≢true}
 use Rattle.attr_sets.specs.Attributes.{Attributes, difference}
 use Rattle.attr_sets.specs.Sets.{attributes}
 use Rattle.attr_sets.proofs.AttributesLemmas.{same_at}
-use Rattle.dep_model.specs.Schemas.{width_of, theory_of}
+use Rattle.dep_model.specs.Theories.{width_of, theory_of}
 use Rattle.std.specs.Prelude.{IsTrue}
 use Rattle.dep_basis.specs.Parts.{HasTwoParts}
 use Rattle.normal_forms.proofs.parting.has_parts_without.Goals as goal
@@ -20,7 +20,7 @@ has_two_parts-requires-clause-lhs c k m = c.requires.most k (grind (arith, same_
 
 pub returns : goal.returns
 returns c =
-    let s = c.args.schema.now in
+    let s = c.args.theory.now in
     let a = c.args.attribute in
     let both : difference (attributes c.args.most) (attributes c.args.least) a ≡ true = sym (same_at c.difference.ensures.members a) ∙ (sym c.contains.ensures.member ∙ c.if-not-contains.false) in
     let exact = subst (λ (x : Attributes). IsTrue c.has_two_parts.result ↔ HasTwoParts (width_of s) (theory_of s) (attributes c.args.scheme) x) c.without.ensures.members c.has_two_parts.ensures.parts in

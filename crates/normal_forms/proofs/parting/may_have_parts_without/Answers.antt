@@ -4,7 +4,7 @@ use Rattle.std.proofs.lemmas.Bool.{true≢false}
 use Rattle.attr_sets.specs.Attributes.{Attributes, difference}
 use Rattle.attr_sets.specs.Sets.{attributes}
 use Rattle.attr_sets.proofs.AttributesLemmas.{same_at}
-use Rattle.dep_model.specs.Schemas.{width_of, theory_of}
+use Rattle.dep_model.specs.Theories.{width_of, theory_of}
 use Rattle.std.specs.Prelude.{IsTrue}
 use Rattle.normal_forms.specs.Passing.{HasNoPartsAbout}
 use Rattle.normal_forms.proofs.parting.may_have_parts_without.Goals as goal
@@ -20,6 +20,6 @@ has_no_parts_about-requires-clause-most c k m = c.requires.most k (grind (arith,
 
 pub returns : goal.returns
 returns c =
-    let s = c.args.schema.now in
+    let s = c.args.theory.now in
     let about = subst (λ (x : Attributes). IsTrue c.has_no_parts_about.result → HasNoPartsAbout (width_of s) (theory_of s) (attributes c.args.scheme) (attributes c.args.least) x) c.without.ensures.members c.has_no_parts_about.ensures.none in
     record { none = λ no _ _. about (grind (arith, no)) }

@@ -2,14 +2,14 @@
 use Rattle.std.proofs.Common.{◌≡◌, ◌↔◌, ℕ, Bool, true, sym, subst}
 use Rattle.attr_sets.specs.Sets.{attributes}
 use Rattle.dep_model.specs.Keys.{InClosure}
-use Rattle.dep_model.specs.Schemas.{width_of}
+use Rattle.dep_model.specs.Theories.{width_of}
 use Rattle.fd_closure.proofs.SchemaLemmas.{functional_closure_of_schema}
 use Rattle.normal_forms.specs.Passing.{theory_by}
 use Rattle.normal_forms.proofs.passing.closed_set.Goals as goal
 
 pub returns-then-functional : goal.returns-then-functional
 returns-then-functional c =
-    let s = c.args.schema.now in
+    let s = c.args.theory.now in
     let x = attributes c.args.lhs in
     let closed = attributes c.functional_closure.result in
     record {
@@ -19,7 +19,7 @@ returns-then-functional c =
 
 pub returns-else-functional : goal.returns-else-functional
 returns-else-functional c =
-    let s = c.args.schema.now in
+    let s = c.args.theory.now in
     let x = attributes c.args.lhs in
     let closed = attributes c.closure.result in
     record {

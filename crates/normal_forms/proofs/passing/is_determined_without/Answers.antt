@@ -4,7 +4,7 @@ use Rattle.std.proofs.lemmas.Bool.{true≢false, false≢true}
 use Rattle.attr_sets.specs.Attributes.{Attributes, difference}
 use Rattle.attr_sets.specs.Sets.{attributes}
 use Rattle.attr_sets.proofs.AttributesLemmas.{same_at}
-use Rattle.dep_model.specs.Schemas.{width_of}
+use Rattle.dep_model.specs.Theories.{width_of}
 use Rattle.dep_model.specs.Keys.{InClosure}
 use Rattle.normal_forms.specs.Passing.{theory_by}
 use Rattle.normal_forms.proofs.passing.is_determined_without.Goals as goal
@@ -17,7 +17,7 @@ returns-then-not-contains c =
 
 pub returns : goal.returns
 returns c =
-    let s = c.args.schema.now in
+    let s = c.args.theory.now in
     let a = c.args.attribute in
     let both : difference (attributes c.args.most) (attributes c.args.least) a ≡ true = sym (same_at c.difference.ensures.members a) ∙ (sym c.contains.ensures.member ∙ c.if-not-contains.false) in
     let exact = subst (λ (x : Attributes). (attributes c.closed_set.result a ≡ true) ↔ InClosure (width_of s) (theory_by c.args.functional s) x a) c.without.ensures.members (c.closed_set.ensures.closure a) in

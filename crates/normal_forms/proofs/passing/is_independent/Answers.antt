@@ -5,14 +5,14 @@ use Rattle.attr_sets.specs.Attributes.{only, difference}
 use Rattle.attr_sets.specs.Sets.{attributes}
 use Rattle.attr_sets.specs.declared.set.TheConstants.{MOST_ATTRIBUTES}
 use Rattle.attr_sets.proofs.AttributesLemmas.{attributes_below}
-use Rattle.dep_model.specs.Schemas.{width_of}
+use Rattle.dep_model.specs.Theories.{width_of}
 use Rattle.dep_model.specs.Keys.{InClosure}
 use Rattle.normal_forms.specs.Passing.{theory_by}
 use Rattle.normal_forms.proofs.passing.is_independent.Goals as goal
 
 pub loop-i-preserved : goal.loop-i-preserved
 loop-i-preserved c a less member out closed =
-    let s = c.args.schema.now in
+    let s = c.args.theory.now in
     elim (cases_eq a c.loop-i.i) [
       | inl same ↦ false≢true (sym c.if-is_determined_without.false ∙ c.is_determined_without.ensures.determined.1 (
         ap (attributes c.args.most) (sym same) ∙ member,

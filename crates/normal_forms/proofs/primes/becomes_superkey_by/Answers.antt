@@ -5,14 +5,14 @@ use Rattle.attr_sets.specs.Attributes.{Attributes}
 use Rattle.attr_sets.specs.Sets.{attributes}
 use Rattle.dep_model.specs.Dependencies.{functional_part}
 use Rattle.dep_model.specs.Keys.{IsSuperkey}
-use Rattle.dep_model.specs.Schemas.{width_of, theory_of}
+use Rattle.dep_model.specs.Theories.{width_of, theory_of}
 use Rattle.normal_forms.specs.Primes.{BecomesSuperkeyBy}
 use Rattle.normal_forms.proofs.BreakLemmas.{IsTrue-not}
 use Rattle.normal_forms.proofs.primes.becomes_superkey_by.Goals as goal
 
 pub returns-then-is_superkey : goal.returns-then-is_superkey
 returns-then-is_superkey c =
-    let s = c.args.schema.now in
+    let s = c.args.theory.now in
     let n = width_of s in
     let fs = functional_part (theory_of s) in
     let scheme = attributes c.args.scheme in
@@ -27,7 +27,7 @@ returns-then-is_superkey c =
 
 pub returns-else-is_superkey : goal.returns-else-is_superkey
 returns-else-is_superkey c =
-    let s = c.args.schema.now in
+    let s = c.args.theory.now in
     let n = width_of s in
     let fs = functional_part (theory_of s) in
     let scheme = attributes c.args.scheme in

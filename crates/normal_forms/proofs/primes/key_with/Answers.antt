@@ -11,7 +11,7 @@ use Rattle.attr_sets.specs.Attributes.{Attributes, below, only, union, differenc
 use Rattle.attr_sets.specs.Sets.{attributes}
 use Rattle.dep_model.specs.Dependencies.{functional_part}
 use Rattle.dep_model.specs.Keys.{IsGreedyKey}
-use Rattle.dep_model.specs.Schemas.{width_of, theory_of}
+use Rattle.dep_model.specs.Theories.{width_of, theory_of}
 use Rattle.fd_closure.proofs.SchemaLemmas.{of_functional_part}
 use Rattle.normal_forms.specs.Primes.{BecomesSuperkeyBy}
 use Rattle.attr_sets.proofs.AttributesLemmas.{same_at}
@@ -22,7 +22,7 @@ use Rattle.normal_forms.proofs.primes.key_with.Goals.{In-Some}
 
 -- a set becomes a superkey by the attribute
 abbrev Becomes : (c : In-Some) → Attributes → Type 0
-Becomes c y = BecomesSuperkeyBy (width_of c.args.schema.now) (functional_part (theory_of c.args.schema.now)) (attributes c.args.scheme) y c.args.attribute
+Becomes c y = BecomesSuperkeyBy (width_of c.args.theory.now) (functional_part (theory_of c.args.theory.now)) (attributes c.args.scheme) y c.args.attribute
 
 -- a set does with the rest
 abbrev BecomesWithRest : (c : In-Some) → Attributes → Type 0
@@ -39,13 +39,13 @@ rest_is c = fun_ext (λ j. grind (arith, same_at c.without-rest.ensures.members 
 -- what is tried with the rest lies within the scheme
 tried_in : (c : In-Some) → IsSubset (union (attributes c.in-Some.set) (attributes c.without-rest.result)) (attributes c.args.scheme)
 tried_in c =
-    let s = c.args.schema.now in
+    let s = c.args.theory.now in
     beside_in (width_of s) (functional_part (theory_of s)) (attributes c.args.scheme) (attributes c.args.whole) (attributes c.without-others.result) (attributes c.without-rest.result) c.args.attribute
     c.requires.scheme c.requires.added c.without-others.ensures.members (rest_is c) (attributes c.in-Some.set) c.requires.within_scheme (searched c).within
 
 pub loop-next-init : goal.loop-next-init
 loop-next-init c =
-    let s = c.args.schema.now in
+    let s = c.args.theory.now in
     let P = λ (y : Attributes). BecomesSuperkeyBy (width_of s) (functional_part (theory_of s)) (attributes c.args.scheme) (union y (attributes c.without-rest.result)) c.args.attribute in
     record {
       part = c.no_part-part.ensures.known true s;
@@ -61,7 +61,7 @@ becomes_superkey_by-requires-clause-set c k m = tried_in (goal.at.becomes_superk
 
 pub returns-then-becomes_superkey_by : goal.returns-then-becomes_superkey_by
 returns-then-becomes_superkey_by c =
-    let s = c.args.schema.now in
+    let s = c.args.theory.now in
     let n = width_of s in
     let fs = functional_part (theory_of s) in
     let scheme = attributes c.args.scheme in
@@ -102,19 +102,19 @@ pub loop-next-preserved : goal.loop-next-preserved
 loop-next-preserved c =
     let at = (goal.at.loop-next-preserved c).In-Some in
     let others = attributes c.without-others.result in
-    let low : IsSubset others (below (width_of c.args.schema.now)) = λ k m. c.requires.scheme k (c.requires.within_scheme k (without_in others (attributes c.args.whole) c.args.attribute c.without-others.ensures.members k m)) in
-    let past = search_past (width_of c.args.schema.now) (BecomesWithRest at) others c.in-Some.set c.passed_keys.result low (searched at)
+    let low : IsSubset others (below (width_of c.args.theory.now)) = λ k m. c.requires.scheme k (c.requires.within_scheme k (without_in others (attributes c.args.whole) c.args.attribute c.without-others.ensures.members k m)) in
+    let past = search_past (width_of c.args.theory.now) (BecomesWithRest at) others c.in-Some.set c.passed_keys.result low (searched at)
     (λ becomes_superkey. false≢true (sym c.if-becomes_superkey_by.false ∙ c.becomes_superkey_by.ensures.becomes_superkey.1 (subst (Becomes at) (sym c.union-before.ensures.members) becomes_superkey)))
     c.passed_keys.ensures.holds c.passed_keys.ensures.within c.passed_keys.ensures.passed in
     record {
       part = c.next_part-part.ensures.known;
-      searched = search_on (width_of c.args.schema.now) (BecomesWithRest at) others c.passed_keys.result c.next_subset-next.result low past.0 past.1
+      searched = search_on (width_of c.args.theory.now) (BecomesWithRest at) others c.passed_keys.result c.next_subset-next.result low past.0 past.1
           c.next_subset-next.ensures.none.0 c.next_subset-next.ensures.next;
     }
 
 pub returns-clause-none : goal.returns-clause-none
 returns-clause-none c = λ _.
-    let s = c.args.schema.now in
+    let s = c.args.theory.now in
     let n = width_of s in
     let fs = functional_part (theory_of s) in
     let scheme = attributes c.args.scheme in

@@ -3,7 +3,7 @@ use Rattle.std.specs.Prelude.{true}
 use Rattle.attr_sets.specs.Attributes.{union}
 use Rattle.attr_sets.specs.Sets.{attributes}
 use Rattle.dep_model.specs.Dependencies.{functional_part}
-use Rattle.dep_model.specs.Schemas.{width_of, theory_of}
+use Rattle.dep_model.specs.Theories.{width_of, theory_of}
 use Rattle.normal_forms.specs.Beginning.{IsKnownPart}
 use Rattle.normal_forms.specs.Primes.{BecomesSuperkeyBy}
 use Rattle.normal_forms.proofs.SearchLemmas.{IsSearched, subsets_left}
@@ -11,8 +11,8 @@ use Rattle.normal_forms.proofs.primes.key_with.Given as goal
 
 abbrev pub invariant-loop-next : goal.invariant-loop-next
 invariant-loop-next l = record {
-  part : IsKnownPart true l.schema l.part;
-  searched : IsSearched (λ y. BecomesSuperkeyBy (width_of l.schema) (functional_part (theory_of l.schema)) (attributes l.scheme) (union y (attributes l.rest)) l.attribute) (attributes l.others) l.next;
+  part : IsKnownPart true l.theory l.part;
+  searched : IsSearched (λ y. BecomesSuperkeyBy (width_of l.theory) (functional_part (theory_of l.theory)) (attributes l.scheme) (union y (attributes l.rest)) l.attribute) (attributes l.others) l.next;
 }
 
 abbrev pub decreases-loop-next : goal.decreases-loop-next

@@ -8,7 +8,7 @@ use Rattle.attr_sets.specs.Sets.{attributes}
 use Rattle.attr_sets.proofs.AttributesLemmas.{same_at}
 use Rattle.dep_model.specs.Dependencies.{functional_part}
 use Rattle.dep_model.specs.Keys.{IsSuperkey}
-use Rattle.dep_model.specs.Schemas.{width_of, theory_of}
+use Rattle.dep_model.specs.Theories.{width_of, theory_of}
 use Rattle.normal_forms.specs.Primes.{BecomesSuperkeyBy}
 use Rattle.normal_forms.proofs.PassLemmas.{passes_none, none_becomes, none_completed}
 use Rattle.normal_forms.proofs.primes.passed_keys.Goals as goal
@@ -29,7 +29,7 @@ with_most_in c k m = elim (or_cases (union (attributes c.filled-most.result) (at
 
 pub returns-then-few : goal.returns-then-few
 returns-then-few c =
-    let s = c.args.schema.now in
+    let s = c.args.theory.now in
     record {
       holds = λ k m. m;
       within = c.requires.set;
@@ -44,7 +44,7 @@ is_superkey-requires-clause-set c k m = elim (or_cases (attributes c.args.set k)
 
 pub returns-then-is_superkey : goal.returns-then-is_superkey
 returns-then-is_superkey c =
-    let s = c.args.schema.now in
+    let s = c.args.theory.now in
     let n = width_of s in
     let fs = functional_part (theory_of s) in
     let scheme = attributes c.args.scheme in
@@ -63,7 +63,7 @@ is_superkey-requires-2-clause-set c = with_most_in (goal.at.is_superkey-requires
 
 pub returns-then-is_superkey-2 : goal.returns-then-is_superkey-2
 returns-then-is_superkey-2 c =
-    let s = c.args.schema.now in
+    let s = c.args.theory.now in
     record {
       holds = λ k m. m;
       within = c.requires.set;
@@ -72,7 +72,7 @@ returns-then-is_superkey-2 c =
 
 pub returns-else-is_superkey-2 : goal.returns-else-is_superkey-2
 returns-else-is_superkey-2 c =
-    let s = c.args.schema.now in
+    let s = c.args.theory.now in
     let n = width_of s in
     let fs = functional_part (theory_of s) in
     let scheme = attributes c.args.scheme in

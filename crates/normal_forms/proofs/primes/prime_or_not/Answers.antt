@@ -5,7 +5,7 @@ use Rattle.std.proofs.lemmas.Bool.{true≢false, cases_Bool}
 use Rattle.attr_sets.specs.Attributes.{difference}
 use Rattle.attr_sets.specs.Sets.{attributes}
 use Rattle.dep_model.specs.Dependencies.{functional_part}
-use Rattle.dep_model.specs.Schemas.{width_of, theory_of}
+use Rattle.dep_model.specs.Theories.{width_of, theory_of}
 use Rattle.attr_sets.proofs.AttributesLemmas.{same_at}
 use Rattle.normal_forms.proofs.PrimeLemmas.{primes_more, candidates_less}
 use Rattle.normal_forms.proofs.primes.prime_or_not.Goals as goal
@@ -37,7 +37,7 @@ loop-attribute-smaller c =
 
 pub loop-attribute-preserved : goal.loop-attribute-preserved
 loop-attribute-preserved c =
-    let s = c.args.schema.now in
+    let s = c.args.theory.now in
     record {
       prime = primes_more (width_of s) (functional_part (theory_of s)) (attributes c.args.scheme) (attributes c.loop-attribute.known) (attributes c.in-Some-key_with.key) (attributes c.union-known.result)
           c.union-known.ensures.members c.loop-attribute.invariant.prime c.in-Some-key_with.ensures.key;

@@ -12,7 +12,7 @@ use Rattle.dep_model.specs.declared.dep.Dep.{Dep}
 use Rattle.dep_model.specs.declared.dep.Dep.TheVariants.{Fd}
 use Rattle.dep_model.specs.Dependencies.{Dependency, left_of}
 use Rattle.dep_model.specs.Deps.{dependency_of, dependencies_of}
-use Rattle.dep_model.specs.Schemas.{width_of, theory_of, deps_of}
+use Rattle.dep_model.specs.Theories.{width_of, theory_of, deps_of}
 use Rattle.normal_forms.specs.Chosen.{IsNoViolation}
 use Rattle.normal_forms.specs.Breaking.{Breaks}
 use Rattle.normal_forms.specs.Violations.{Violates}
@@ -36,7 +36,7 @@ loop-dep-init c = λ k d l. absurd (omega arith)
 
 pub returns-then-breaks-clause-none : goal.returns-then-breaks-clause-none
 returns-then-breaks-clause-none c =
-    let s = c.args.schema.now in
+    let s = c.args.theory.now in
     let n = width_of s in
     let ds = theory_of s in
     let i = c.loop-dep.dep-index in
@@ -49,7 +49,7 @@ returns-then-breaks-clause-none c =
 
 pub returns-then-breaks-clause-visible : goal.returns-then-breaks-clause-visible
 returns-then-breaks-clause-visible c =
-    let s = c.args.schema.now in
+    let s = c.args.theory.now in
     let ds = theory_of s in
     let i = c.loop-dep.dep-index in
     let d = dependency_of first in
@@ -66,7 +66,7 @@ returns-then-breaks-clause-visible c =
 
 pub loop-dep-preserved : goal.loop-dep-preserved
 loop-dep-preserved c =
-    let s = c.args.schema.now in
+    let s = c.args.theory.now in
     let n = width_of s in
     let ds = theory_of s in
     let scheme = attributes c.args.scheme in
@@ -86,7 +86,7 @@ loop-dep-preserved c =
 
 pub returns-clause-none : goal.returns-clause-none
 returns-clause-none c =
-    let s = c.args.schema.now in
+    let s = c.args.theory.now in
     let ds = theory_of s in
     let past : length ds ≤ c.loop-dep.dep-index = omega (arith, c.loop-dep-test.false, ap (λ (es : List Dep). length es) c.deps-dep-items.ensures.deps, length-map (deps_of s) dependency_of) in (
       (λ _. subst (λ (es : List Dependency). All (IsNoViolation (width_of s) ds c.args.form (attributes c.args.scheme)) es) (take_all c.loop-dep.dep-index ds past) c.loop-dep.invariant),
@@ -94,4 +94,4 @@ returns-clause-none c =
     )
 
 pub breaks-requires-clause-part : goal.breaks-requires-clause-part
-breaks-requires-clause-part c = c.no_part.ensures.known false c.args.schema.now
+breaks-requires-clause-part c = c.no_part.ensures.known false c.args.theory.now

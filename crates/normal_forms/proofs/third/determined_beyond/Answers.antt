@@ -4,7 +4,7 @@ use Rattle.std.proofs.lemmas.Bool.{true≢false, false≢true}
 use Rattle.attr_sets.specs.Sets.{attributes}
 use Rattle.dep_model.specs.Dependencies.{functional_part}
 use Rattle.dep_model.specs.Keys.{InClosure}
-use Rattle.dep_model.specs.Schemas.{width_of, theory_of}
+use Rattle.dep_model.specs.Theories.{width_of, theory_of}
 use Rattle.attr_sets.proofs.AttributesLemmas.{same_at}
 use Rattle.normal_forms.proofs.BreakLemmas.{superkey_closed, closed_superkey, right_side_at}
 use Rattle.normal_forms.proofs.third.determined_beyond.Goals as goal
@@ -12,13 +12,13 @@ use Rattle.normal_forms.proofs.third.determined_beyond.Goals.{After-closure_begu
 
 -- what was found is the closure of the left side
 found_is : (c : After-closure_begun-found) → (a : ℕ) → (attributes c.closure_begun-found.result a ≡ true)
-    ↔ InClosure (width_of c.args.schema.now) (functional_part (theory_of c.args.schema.now)) (attributes c.args.lhs) a
+    ↔ InClosure (width_of c.args.theory.now) (functional_part (theory_of c.args.theory.now)) (attributes c.args.lhs) a
 found_is c =
     c.closure_begun-found.ensures.closure
 
 pub returns-then-is_subset : goal.returns-then-is_subset
 returns-then-is_subset c =
-    let s = c.args.schema.now in
+    let s = c.args.theory.now in
     let n = width_of s in
     let fs = functional_part (theory_of s) in
     let scheme = attributes c.args.scheme in
@@ -34,7 +34,7 @@ returns-then-is_subset c =
 
 pub returns : goal.returns
 returns c =
-    let s = c.args.schema.now in
+    let s = c.args.theory.now in
     let n = width_of s in
     let fs = functional_part (theory_of s) in
     let scheme = attributes c.args.scheme in

@@ -1,7 +1,7 @@
 -- What is left to prove of `passed_third`: what it answers, case by case, by `passes_none`.
 use Rattle.attr_sets.specs.Sets.{attributes}
 use Rattle.dep_model.specs.Dependencies.{functional_part}
-use Rattle.dep_model.specs.Schemas.{width_of, theory_of}
+use Rattle.dep_model.specs.Theories.{width_of, theory_of}
 use Rattle.dep_model.specs.declared.form.Form.TheVariants.{Bcnf}
 use Rattle.normal_forms.specs.Breaking.{Breaks}
 use Rattle.normal_forms.proofs.PassLemmas.{passes_none}
@@ -12,7 +12,7 @@ determines_none-passes-requires-clause-most c k m = c.requires.within_scheme k (
 
 pub returns-then-few : goal.returns-then-few
 returns-then-few c =
-    let s = c.args.schema.now in
+    let s = c.args.theory.now in
     record {
       holds = λ k m. m;
       within = c.requires.set;
@@ -28,7 +28,7 @@ returns-then-passes c = record {
 
 pub returns-else-passes : goal.returns-else-passes
 returns-else-passes c =
-    let s = c.args.schema.now in
+    let s = c.args.theory.now in
     record {
       holds = λ k m. m;
       within = c.requires.set;

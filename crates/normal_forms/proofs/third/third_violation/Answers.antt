@@ -11,7 +11,7 @@ use Rattle.attr_sets.specs.Attributes.{Attributes, below, IsSubset}
 use Rattle.attr_sets.specs.Sets.{attributes}
 use Rattle.attr_sets.proofs.AttributesLemmas.{attributes_below, same_at}
 use Rattle.dep_model.specs.Dependencies.{functional_part}
-use Rattle.dep_model.specs.Schemas.{width_of, theory_of, deps_of}
+use Rattle.dep_model.specs.Theories.{width_of, theory_of, deps_of}
 use Rattle.dep_model.specs.declared.form.Form.TheVariants.{Bcnf}
 use Rattle.normal_forms.specs.Breaking.{Breaks}
 use Rattle.normal_forms.specs.Violations.{ViolatesThird}
@@ -24,7 +24,7 @@ use Rattle.normal_forms.proofs.third.third_violation.Goals.{In-Some}
 
 -- a set may violate the form, as far as these are the primes
 abbrev MayViolate : (c : In-Some) → Attributes → Attributes → Type 0
-MayViolate c primes = MayViolateThird (width_of c.args.schema.now) (functional_part (theory_of c.args.schema.now)) (attributes c.args.scheme) primes
+MayViolate c primes = MayViolateThird (width_of c.args.theory.now) (functional_part (theory_of c.args.theory.now)) (attributes c.args.scheme) primes
 
 -- the subsets before the one that is tried
 searched : (c : In-Some) → IsSearched (MayViolate c (attributes c.loop-next.primes)) (attributes c.functionally_searched_attributes-whole.result) (Some c.in-Some.lhs)
@@ -32,7 +32,7 @@ searched c = subst (λ (o : Option AttrSet). IsSearched (MayViolate c (attribute
 
 pub loop-next-init : goal.loop-next-init
 loop-next-init c =
-    let s = c.args.schema.now in
+    let s = c.args.theory.now in
     record {
       part = c.no_part-part.ensures.known true s;
       prime = λ a m. absurd (true≢false (sym m ∙ same_at c.empty-primes.ensures.members a));
@@ -56,7 +56,7 @@ single-rhs-requires c = ltb-true c.in-NotPrime.attribute MOST_ATTRIBUTES (attrib
 
 pub returns-in-NotPrime-clause-chosen : goal.returns-in-NotPrime-clause-chosen
 returns-in-NotPrime-clause-chosen c =
-    let s = c.args.schema.now in
+    let s = c.args.theory.now in
     let n = width_of s in
     let fs = functional_part (theory_of s) in
     let scheme = attributes c.args.scheme in
@@ -104,9 +104,9 @@ loop-next-preserved c =
     let sifted = c.in-Prime.ensures.prime_or_not in
     let fewer = search_weaker (MayViolate at primes) (MayViolate at known) whole (Some c.in-Some.lhs)
     (λ x u. (u.0, (u.1.0, u.1.1, false_from_ne_true (primes u.1.0) (λ m. true≢false (sym (sifted.2 u.1.0 m) ∙ u.1.2))))) (searched at) in
-    let n = width_of c.args.schema.now in
+    let n = width_of c.args.theory.now in
     let low : IsSubset whole (below n) = λ k m. c.requires.scheme k (c.functionally_searched_attributes-whole.ensures.within k m) in
-    let passes = passes_weaker (Breaks n (functional_part (theory_of c.args.schema.now)) Bcnf (attributes c.args.scheme)) (MayViolate at known) whole (attributes c.in-Some.lhs) (attributes c.passed_third.result)
+    let passes = passes_weaker (Breaks n (functional_part (theory_of c.args.theory.now)) Bcnf (attributes c.args.scheme)) (MayViolate at known) whole (attributes c.in-Some.lhs) (attributes c.passed_third.result)
     (λ x u. (u.0, (u.1.0, u.1.1))) c.passed_third.ensures.passed in
     let past = search_past n (MayViolate at known) whole c.in-Some.lhs c.passed_third.result low fewer
     (λ u. true≢false (sym (sifted.1 u.1.0 ((c.determined_beyond-beyond.ensures.beyond u.1.0).1 (u.0, u.1.1))) ∙ u.1.2))
@@ -120,7 +120,7 @@ loop-next-preserved c =
 
 pub returns-clause-none : goal.returns-clause-none
 returns-clause-none c = λ _.
-    let s = c.args.schema.now in
+    let s = c.args.theory.now in
     let n = width_of s in
     let fs = functional_part (theory_of s) in
     let scheme = attributes c.args.scheme in

@@ -4,7 +4,7 @@ use Rattle.std.specs.Prelude.{All}
 use Rattle.attr_sets.specs.declared.set.AttrSet.{AttrSet}
 use Rattle.attr_sets.specs.Attributes.{below, IsSubset, IsEmpty}
 use Rattle.attr_sets.specs.Sets.{attributes}
-use Rattle.dep_model.specs.Schemas.{width_of}
+use Rattle.schema_model.specs.Schemas.{width_of}
 use Rattle.plan_printer.proofs.printing.print_plan.Goals as goal
 
 pub add_schemes-requires : goal.add_schemes-requires

@@ -7,7 +7,7 @@ use Rattle.std.proofs.lemmas.List.Folds.{Any-from_list_any}
 use Rattle.attr_sets.specs.Attributes.{Attributes, below, difference, IsEmpty, IsFirstFrom}
 use Rattle.attr_sets.specs.Sets.{attributes}
 use Rattle.dep_model.specs.Plans.{schemes_of}
-use Rattle.dep_model.specs.Schemas.{width_of}
+use Rattle.schema_model.specs.Schemas.{width_of}
 use Rattle.plan_grammar.specs.Diagnostics.{uncovered_attributes}
 use Rattle.plan_reader.proofs.covering.first_uncovered.Goals as goal
 

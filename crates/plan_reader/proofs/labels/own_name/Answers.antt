@@ -1,5 +1,5 @@
 -- What is left to prove of `own_name`: what `unwrap` requires, since a word is a name.
-use Rattle.dep_model.proofs.NameLemmas.{bare_name_is_name}
+use Rattle.schema_model.proofs.NameLemmas.{bare_name_is_name}
 use Rattle.plan_reader.proofs.labels.own_name.Goals as goal
 
 pub unwrap-requires : goal.unwrap-requires

@@ -1,6 +1,6 @@
 -- What is left to prove of `read_line`: its clauses `ok` and `err`, by `ReadingLemmas`.
 use Rattle.std.proofs.Common.{Ok, sym, ap, ◌∙◌}
-use Rattle.dep_model.specs.declared.naming.Naming.{Naming}
+use Rattle.schema_model.specs.declared.naming.Naming.{Naming}
 use Rattle.lexer.specs.declared.mode.Mode.{Mode}
 use Rattle.lexer.specs.Tokens.{lex}
 use Rattle.plan_grammar.specs.LineTokens.{line_mode}

@@ -1,6 +1,6 @@
 -- What the loop of `read_lines` keeps: `Reads`; and by what it ends.
 use Rattle.std.proofs.Common.{length}
-use Rattle.dep_model.specs.Schemas.{naming_of, names_of}
+use Rattle.schema_model.specs.Schemas.{naming_of, names_of}
 use Rattle.plan_reader.specs.Drafts.{drafted}
 use Rattle.plan_reader.proofs.ReadingLemmas.{Reads}
 use Rattle.plan_reader.proofs.reading.read_lines.Given as goal

@@ -7,8 +7,8 @@ use Rattle.attr_sets.specs.Attributes.{Attributes, IsFirstFrom}
 use Rattle.dep_model.proofs.FailureLemmas.{refuses_also}
 use Rattle.dep_model.specs.Plans.{schemes_of}
 use Rattle.dep_model.specs.Projections.{Covers}
-use Rattle.dep_model.specs.Schemas.{naming_of, names_of, width_of}
-use Rattle.dep_model.specs.declared.naming.Naming.{Naming}
+use Rattle.schema_model.specs.Schemas.{naming_of, names_of, width_of}
+use Rattle.schema_model.specs.declared.naming.Naming.{Naming}
 use Rattle.lexer.specs.Lines.{line_texts, without_mark}
 use Rattle.plans.specs.declared.bounds.TheConstants.{MOST_SCHEMES}
 use Rattle.plan_grammar.specs.Diagnostics.{uncovered_attributes}
@@ -31,11 +31,11 @@ new-requires c =
     let names = names_of c.args.schema.now in
     let is = meant naming names c.args.text.now c.without_mark.result.now (drafted c.in-Ok.draft) c.without_mark.ensures.text c.in-Ok.ensures.ok in
     record {
-      plan = record {
+      plan = rw (c.theory.ensures.theory) (record {
         within = lines_within naming names [] (line_texts (without_mark c.args.text.now)) (drafted c.in-Ok.draft) is.0;
         not_empty = lines_not_empty naming names [] (line_texts (without_mark c.args.text.now)) (drafted c.in-Ok.draft) is.0;
         covers = subst (λ (xs : List AttrSet). Covers (width_of c.args.schema.now) (schemes_of xs)) c.deref.ensures.value (c.in-None.ensures.covers refl);
-      };
+      });
     }
 
 pub returns-in-None-clause-ok : goal.returns-in-None-clause-ok

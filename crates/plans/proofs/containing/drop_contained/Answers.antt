@@ -6,7 +6,7 @@ use Rattle.std.specs.List.{list_any}
 use Rattle.attr_sets.specs.declared.set.AttrSet.{AttrSet}
 use Rattle.dep_model.specs.Projections.{IsLossless}
 use Rattle.dep_model.specs.Plans.{schemes_of}
-use Rattle.dep_model.specs.Schemas.{width_of}
+use Rattle.dep_model.specs.Theories.{width_of}
 use Rattle.plans.specs.Schemes.{AreSchemes}
 use Rattle.plans.specs.Containing.{lies_within, without_contained}
 use Rattle.plans.proofs.PlanLemmas.{schemes_are_plan}
@@ -15,7 +15,7 @@ use Rattle.plans.proofs.containing.drop_contained.Goals as goal
 
 pub new-requires : goal.new-requires
 new-requires c =
-    let n = width_of c.args.schema.now in
+    let n = width_of c.args.theory.now in
     record {
       plan = schemes_are_plan n c.without_contained.result.items
           (c.without_contained.ensures.plan n (subst (λ (xs : List AttrSet). AreSchemes n xs) (sym c.into_schemes.ensures.schemes) (subst (λ (m : ℕ). AreSchemes m c.args.plan.schemes.items) c.requires.universe c.args.plan.valid)));
@@ -23,7 +23,7 @@ new-requires c =
 
 pub returns-clause-lossless : goal.returns-clause-lossless
 returns-clause-lossless c ds lossless =
-    let n = width_of c.args.schema.now in
+    let n = width_of c.args.theory.now in
     subst (λ (xs : List AttrSet). IsLossless n ds (schemes_of xs)) (sym c.new.ensures.schemes)
     (c.without_contained.ensures.lossless n ds (subst (λ (xs : List AttrSet). IsLossless n ds (schemes_of xs)) (sym c.into_schemes.ensures.schemes) lossless))
 

@@ -3,7 +3,7 @@ use Rattle.std.proofs.Common.{◌≡◌, Some, Option, inr, refl, subst}
 use Rattle.std.specs.Prelude.{IfSome}
 use Rattle.attr_sets.specs.Attributes.{Attributes}
 use Rattle.attr_sets.specs.Sets.{attributes}
-use Rattle.dep_model.specs.Schemas.{width_of, theory_of}
+use Rattle.dep_model.specs.Theories.{width_of, theory_of}
 use Rattle.preservation.specs.declared.closing.Closed.{Closed}
 use Rattle.preservation.specs.SchemeClosures.{plan_of_closures}
 use Rattle.preservation.specs.FunctionallyClosed.{TellsKeptClosure, IsKeptClosure}
@@ -12,8 +12,8 @@ use Rattle.preservation.proofs.closing.closure_after.Goals as goal
 
 pub returns-then-eq : goal.returns-then-eq
 returns-then-eq c =
-    let n = width_of c.args.schema.now in
-    let ds = theory_of c.args.schema.now in
+    let n = width_of c.args.theory.now in
+    let ds = theory_of c.args.theory.now in
     let plan = plan_of_closures c.args.closures.now in
     let fact = c.in-Some.previous in
     let known : IfSome (Some fact) (TellsKeptClosure n ds plan) = subst (λ (last : Option Closed). IfSome last (TellsKeptClosure n ds plan)) c.in-Some.is c.requires.last in

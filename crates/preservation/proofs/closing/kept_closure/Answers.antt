@@ -18,7 +18,7 @@ use Rattle.attr_sets.proofs.AttributesLemmas.{
   count_below-le,
 }
 use Rattle.dep_model.proofs.RuleLemmas.{transitivity_obeyed, reflexivity_obeyed}
-use Rattle.dep_model.specs.Schemas.{width_of, theory_of}
+use Rattle.dep_model.specs.Theories.{width_of, theory_of}
 use Rattle.dep_model.specs.TwoTuples.{two_tuples}
 use Rattle.preservation.specs.SchemeClosures.{schemes_of_closures, plan_of_closures}
 use Rattle.preservation.specs.Keeping.{ObeysInside}
@@ -50,7 +50,7 @@ loop-wanted-preserved c =
       kept = λ r inside.
           transitivity_obeyed (attributes c.args.from) (attributes c.loop-wanted.closed) (attributes more.result) r
           (before.kept r inside)
-          (more.ensures.kept r (same_plan_obeyed (width_of c.args.schema.now) (theory_of c.args.schema.now)
+          (more.ensures.kept r (same_plan_obeyed (width_of c.args.theory.now) (theory_of c.args.theory.now)
           c.args.closures.now c.loop-wanted.closures r before.schemes inside));
       known = more.ensures.known;
       schemes = more.ensures.schemes ∙ before.schemes;
@@ -73,7 +73,7 @@ loop-wanted-smaller c =
 
 pub returns-then-eq : goal.returns-then-eq
 returns-then-eq c =
-    let s = c.args.schema.now in
+    let s = c.args.theory.now in
     let n = width_of s in
     let ds = theory_of s in
     let now = attributes c.loop-wanted.closed in
@@ -109,7 +109,7 @@ returns-then-is_subset c =
       follows = λ r inside.
           transitivity_obeyed (attributes c.args.from) (attributes c.loop-wanted.closed) (attributes more.result) r
           (before.kept r inside)
-          (more.ensures.kept r (same_plan_obeyed (width_of c.args.schema.now) (theory_of c.args.schema.now)
+          (more.ensures.kept r (same_plan_obeyed (width_of c.args.theory.now) (theory_of c.args.theory.now)
           c.args.closures.now c.loop-wanted.closures r before.schemes inside));
       found = inl (c.if-is_subset.ensures.subset.0 refl);
       known = more.ensures.known;

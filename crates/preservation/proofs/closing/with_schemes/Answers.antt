@@ -8,7 +8,7 @@ use Rattle.attr_sets.specs.Attributes.{IsSubset}
 use Rattle.attr_sets.specs.Sets.{attributes}
 use Rattle.attr_sets.specs.declared.set.AttrSet.{AttrSet}
 use Rattle.dep_model.proofs.RuleLemmas.{transitivity_obeyed, reflexivity_obeyed}
-use Rattle.dep_model.specs.Schemas.{width_of, theory_of}
+use Rattle.dep_model.specs.Theories.{width_of, theory_of}
 use Rattle.preservation.specs.declared.scheme_closure.SchemeClosure.{SchemeClosure}
 use Rattle.preservation.specs.SchemeClosures.{IsClosureWithin, IsSchemeClosure, schemes_of_closures, plan_of_closures}
 use Rattle.preservation.specs.FunctionallyClosed.{IsFunctionallyClosedIn}
@@ -30,7 +30,7 @@ loop-i-init c = record {
 
 pub loop-i-preserved : goal.loop-i-preserved
 loop-i-preserved c =
-    let s = c.args.schema.now in
+    let s = c.args.theory.now in
     let n = width_of s in
     let ds = theory_of s in
     let i = c.loop-i.i in

@@ -6,7 +6,7 @@ use Rattle.dep_model.specs.declared.dep.Dep.{Dep}
 use Rattle.dep_model.specs.declared.dep.Dep.TheVariants.{Fd}
 use Rattle.dep_model.specs.Deps.{IsDepWithin}
 use Rattle.dep_model.specs.Plans.{schemes_of}
-use Rattle.dep_model.specs.Schemas.{deps_of, theory_of, width_of, universe_of}
+use Rattle.dep_model.specs.Theories.{deps_of, theory_of, width_of, universe_of}
 use Rattle.preservation.specs.declared.scheme_closure.SchemeClosure.{SchemeClosure}
 use Rattle.preservation.specs.SchemeClosures.{IsSchemeClosure, schemes_of_closures}
 use Rattle.preservation.specs.Keeping.{LossesOf}
@@ -30,7 +30,7 @@ loop-k-init c = record {
 
 pub loss_of-loss-requires-clause-dep : goal.loss_of-loss-requires-clause-dep
 loss_of-loss-requires-clause-dep c =
-    let s = c.args.schema.now in
+    let s = c.args.theory.now in
     let ds : List Dep = c.deps-in-loop-k.result.now in
     let same : ds ≡ deps_of s = c.deps-in-loop-k.ensures.deps in
     let low : c.loop-k.k < length ds =
@@ -39,9 +39,14 @@ loss_of-loss-requires-clause-dep c =
     subst (λ (ds : List Dep). All (IsDepWithin (universe_of s)) ds) (sym same) s.valid.deps_within in
     all c.loop-k.k nothing low
 
+pub loss_of-loss-requires-clause-known : goal.loss_of-loss-requires-clause-known
+loss_of-loss-requires-clause-known c =
+    subst (λ (l : List SchemeClosure). All (IsSchemeClosure (width_of c.args.theory.now) (theory_of c.args.theory.now)) l)
+    (sym c.deref_mut.ensures.value) c.loop-k.invariant.known
+
 pub loop-k-preserved : goal.loop-k-preserved
 loop-k-preserved c =
-    let s = c.args.schema.now in
+    let s = c.args.theory.now in
     let n = width_of s in
     let plan = schemes_of c.args.schemes.now in
     let ds : List Dep = c.deps-in-loop-k.result.now in
@@ -83,7 +88,7 @@ loop-k-preserved c =
 
 pub returns-clause-keeps : goal.returns-clause-keeps
 returns-clause-keeps c =
-    let s = c.args.schema.now in
+    let s = c.args.theory.now in
     let n = width_of s in
     let plan = schemes_of c.args.schemes.now in
     let found = c.loop-k.losses.items in

@@ -2,7 +2,7 @@
 use Rattle.std.proofs.Common.{refl, ap, ◌∙◌, arith}
 use Rattle.attr_sets.specs.Sets.{attributes}
 use Rattle.attr_sets.specs.declared.set.AttrSet.{AttrSet}
-use Rattle.dep_model.specs.Schemas.{width_of, theory_of}
+use Rattle.dep_model.specs.Theories.{width_of, theory_of}
 use Rattle.attr_sets.proofs.AttributesLemmas.{same_at}
 use Rattle.preservation.proofs.KeepingLemmas.{part_inside}
 use Rattle.preservation.proofs.scheme_closure.closure_covering.Goals as goal
@@ -16,7 +16,7 @@ returns-then-is_subset-2-clause-covers c k m = c.if-is_subset-2.ensures.subset.0
 
 pub returns-else-is_subset-clause-covers : goal.returns-else-is_subset-clause-covers
 returns-else-is_subset-clause-covers c k m =
-    let s = c.args.schema.now in
+    let s = c.args.theory.now in
     let new = c.closure_within.result in
     part_inside (width_of s) (theory_of s) (attributes new.scheme) (attributes new.part) (attributes new.closed)
     c.closure_within.ensures.known k

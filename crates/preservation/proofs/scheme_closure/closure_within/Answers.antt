@@ -3,14 +3,14 @@ use Rattle.std.proofs.Common.{◌≡◌, ℕ, ◌↔◌, true, arith}
 use Rattle.attr_sets.specs.Sets.{attributes}
 use Rattle.dep_model.specs.Dependencies.{functional_part}
 use Rattle.dep_model.specs.Keys.{InClosure}
-use Rattle.dep_model.specs.Schemas.{width_of, theory_of}
+use Rattle.dep_model.specs.Theories.{width_of, theory_of}
 use Rattle.attr_sets.proofs.AttributesLemmas.{same_at}
 use Rattle.preservation.proofs.KnownLemmas.{closure_over}
 use Rattle.preservation.proofs.scheme_closure.closure_within.Goals as goal
 
 pub returns-clause-known : goal.returns-clause-known
 returns-clause-known c =
-    let s = c.args.schema.now in
+    let s = c.args.theory.now in
     let part = attributes c.args.part in
     let all = attributes c.functional_closure_with.result in
     let exact : (a : ℕ) → (all a ≡ true) ↔ InClosure (width_of s) (functional_part (theory_of s)) part a =

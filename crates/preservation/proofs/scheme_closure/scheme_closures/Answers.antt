@@ -5,14 +5,14 @@ use Rattle.std.proofs.lemmas.List.{map-append, take_more}
 use Rattle.std.proofs.lemmas.List.Elements.{All-push}
 use Rattle.std.specs.Prelude.{All}
 use Rattle.attr_sets.specs.declared.set.AttrSet.{AttrSet}
-use Rattle.dep_model.specs.Schemas.{width_of, theory_of}
+use Rattle.dep_model.specs.Theories.{width_of, theory_of}
 use Rattle.preservation.specs.declared.scheme_closure.SchemeClosure.{SchemeClosure}
 use Rattle.preservation.specs.SchemeClosures.{IsSchemeClosure, schemes_of_closures}
 use Rattle.preservation.proofs.scheme_closure.scheme_closures.Goals as goal
 
 pub loop-scheme-preserved : goal.loop-scheme-preserved
 loop-scheme-preserved c =
-    let s = c.args.schema.now in
+    let s = c.args.theory.now in
     let first : AttrSet = record { 0 = 0 } in
     let scheme : SchemeClosure → AttrSet = (λ (closure : SchemeClosure). closure.scheme) in
     let new = c.closure_within in

@@ -10,6 +10,7 @@ use Rattle.derivation.proofs.DerivLemmas.{step_tree, pair_tree}
 use Rattle.derivation.proofs.WithinLemmas.{tree_of-attributes}
 use Rattle.proof_grammar.proofs.PrintedWithin.{step_within}
 use Rattle.proof_text.proofs.PrintingLemmas.{stated_within, step_added, pair_added}
+use Rattle.schema_model.specs.Schemas.{theory_in}
 use Rattle.proof_text.proofs.printing.+add_lines.Goals as goal
 
 pub add_node-requires-clause-stated : goal.add_node-requires-clause-stated
@@ -28,7 +29,7 @@ pub stated_by_step-stated-requires : goal.stated_by_step-stated-requires
 stated_by_step-stated-requires t c =
     let proof = rw (step_tree c.in-Step.is c.deref.ensures) at c.requires.proof in
     let from = c.in_ok-from-in-Step in
-    let one = Proves-one c.args.schema.now (tree_of c.deref.result.now) proof.1.0
+    let one = Proves-one (theory_in c.args.schema.now) (tree_of c.deref.result.now) proof.1.0
     (dependency_of from.from) proof.1.1 from.ensures.proves in
     record { concludes = (proof.0, rw one at proof.1.2) }
 
@@ -65,9 +66,9 @@ stated_by_pair-stated-requires t c =
     let proof = rw (pair_tree c.in-Pair.is c.deref-in-Pair.ensures c.deref-in-Pair-2.ensures) at c.requires.proof in
     let left = c.in_ok-left-in-Pair in
     let right = c.in_ok-right-in-Pair in
-    let first = Proves-one s (tree_of c.deref-in-Pair.result.now) proof.1.0
+    let first = Proves-one (theory_in s) (tree_of c.deref-in-Pair.result.now) proof.1.0
     (dependency_of left.left) proof.1.2 left.ensures.proves in
-    let second = Proves-one s (tree_of c.deref-in-Pair-2.result.now) proof.1.1
+    let second = Proves-one (theory_in s) (tree_of c.deref-in-Pair-2.result.now) proof.1.1
     (dependency_of right.right) proof.1.3 right.ensures.proves in
     record { concludes = (proof.0, rw (first, second) at proof.1.4) }
 

@@ -11,7 +11,7 @@ use Rattle.proof_grammar.specs.Texts.{read_certificate_lines, read_proof}
 use Rattle.dep_model.proofs.FailureLemmas.{refused_is}
 use Rattle.proof_grammar.specs.ValidStates.{IsCheckerState}
 use Rattle.dep_model.specs.Deps.{dependency_of}
-use Rattle.dep_model.specs.Schemas.{universe_of}
+use Rattle.schema_model.specs.Schemas.{universe_of}
 use Rattle.proof_grammar.proofs.CertificateLaws.{spelled_there}
 use Rattle.proof_grammar.proofs.TextRefusals.{refuses_there}
 use Rattle.proof_text.proofs.PrintingLemmas.{stated_within}

@@ -5,7 +5,7 @@ use Rattle.reason_laws.proofs.reasons.explanations_leave_the_answer.Goals as goa
 
 pub returns : goal.returns
 returns c = record {
-  cover = λ schema response are_names low. cover_leaves schema are_names low response;
+  cover = λ schema response are_names. cover_leaves schema are_names response;
   keys = λ schema response are_names. keys_leave schema are_names response;
   synthesis = λ schema response are_names. synthesis_leaves schema are_names response;
   split = λ schema form response are_names. split_leaves schema are_names form response;

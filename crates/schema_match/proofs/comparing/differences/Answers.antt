@@ -4,7 +4,7 @@ use Rattle.std.proofs.Common.{ℕ, ◌+◌, ◌≤◌, List, length, sym, ◌∙
 use Rattle.std.proofs.lemmas.Bool.{false≢true}
 use Rattle.dep_model.specs.declared.dep.Dep.{Dep}
 use Rattle.dep_model.specs.Deps.{dependency_of}
-use Rattle.dep_model.specs.Schemas.{deps_of}
+use Rattle.schema_model.specs.Schemas.{deps_of}
 use Rattle.schema_match.proofs.DifferenceLemmas.{AreDifferencesTo, carried_here, carried_within, implied_is}
 use Rattle.schema_match.proofs.DifferenceLemmas.{follows_is, differences_follow, differences_differ}
 use Rattle.schema_match.proofs.DifferenceLemmas.{differences_done, differences_inside, none_exactly}
@@ -20,7 +20,7 @@ is_implied-requires c =
     c.loop-k.k _ e
     c.deps-dep-items.ensures.deps c.deref.ensures.value c.in_ok-attributes.ensures.namesakes c.loop-k-test.true
     c.carry_dependency.ensures.carried in
-    record { within = carried_within s o e found.0 found.2 }
+    record { within = rw (c.theory.ensures.theory) (carried_within s o e found.0 found.2) }
 
 pub loop-k-preserved : goal.loop-k-preserved
 loop-k-preserved c =
@@ -36,12 +36,12 @@ loop-k-preserved c =
           let more = differences_differ s o k c.loop-k.numbers.items found.0 c.loop-k.invariant found.1
           (λ follows. false≢true
           (sym w.if-not-is_implied.true
-          ∙ c.is_implied.ensures.implied.1 (follows_is s o e found.0 found.2 follows))) in
+          ∙ (rw (c.theory.ensures.theory) at c.is_implied.ensures.implied).1 (follows_is s o e found.0 found.2 follows))) in
           let pushed = ap (λ v. v.items) w.numbers-is ∙ w.in_ok-push.ensures.items in
           subst (λ (numbers : List ℕ). AreDifferencesTo s o (k + 1) numbers) (sym pushed) more
       | else-not-is_implied w ↦
           let more = differences_follow s o k c.loop-k.numbers.items found.0 c.loop-k.invariant found.1
-          (implied_is s o e found.0 found.2 (c.is_implied.ensures.implied.0 w.if-not-is_implied.false)) in
+          (implied_is s o e found.0 found.2 ((rw (c.theory.ensures.theory) at c.is_implied.ensures.implied).0 w.if-not-is_implied.false)) in
           subst (λ (numbers : List ℕ). AreDifferencesTo s o (k + 1) numbers) (sym (ap (λ v. v.items) w.numbers-is)) more
     ]
 

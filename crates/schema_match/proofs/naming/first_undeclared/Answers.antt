@@ -3,7 +3,7 @@
 use Rattle.std.proofs.Common.{◌≡◌, ℕ, ◌<◌, true, false, ⊎_elim, sym, ◌∙◌, ap, arith}
 use Rattle.std.proofs.lemmas.Bool.{cases_eq, true≢false}
 use Rattle.std.specs.Prelude.{is_none}
-use Rattle.dep_model.specs.Schemas.{width_of}
+use Rattle.schema_model.specs.Schemas.{width_of}
 use Rattle.schema_match.specs.Columns.{undeclared_attributes}
 use Rattle.schema_match.proofs.NameLemmas.{attribute_named-name, undeclared_is}
 use Rattle.schema_match.proofs.naming.first_undeclared.Goals as goal

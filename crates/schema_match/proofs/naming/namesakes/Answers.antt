@@ -1,7 +1,7 @@
 -- What is left to prove of `namesakes`: what `unreachable` requires and that a round of its loop
 -- keeps the invariant, by `CarryLemmas` and `NameLemmas`.
 use Rattle.std.proofs.Common.{ℕ, ◌+◌, ◌<◌, List, sym, ◌∙◌, subst, arith}
-use Rattle.dep_model.specs.Schemas.{width_of}
+use Rattle.schema_model.specs.Schemas.{width_of}
 use Rattle.schema_match.proofs.NameLemmas.{attribute_named-name, not_declared}
 use Rattle.schema_match.proofs.CarryLemmas.{AreNamesakesTo, namesakes_more}
 use Rattle.schema_match.proofs.naming.namesakes.Goals as goal

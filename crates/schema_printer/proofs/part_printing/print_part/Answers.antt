@@ -4,7 +4,7 @@ use Rattle.attr_sets.specs.Attributes.{Attributes, intersection}
 use Rattle.attr_sets.specs.Sets.{attributes}
 use Rattle.attr_sets.proofs.AttributesLemmas.{same_at}
 use Rattle.dep_model.specs.Deps.{dependencies_of}
-use Rattle.dep_model.specs.Schemas.{nullable_of}
+use Rattle.schema_model.specs.Schemas.{nullable_of}
 use Rattle.schema_printer.specs.Printing.{lines_text, members_from, nullable_lines}
 use Rattle.schema_printer.specs.Spelling.{printed_names_of}
 use Rattle.schema_printer.specs.Parts.{part_declared_text, part_heading, rules_text}

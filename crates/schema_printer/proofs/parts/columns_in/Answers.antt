@@ -5,10 +5,10 @@ use Rattle.std.proofs.lemmas.Option.{get_or_from_slice_get}
 use Rattle.std.proofs.lemmas.List.Elements.{All-nil, All-push}
 use Rattle.std.specs.Prelude.{All, IsTrue}
 use Rattle.attr_sets.specs.Sets.{attributes}
-use Rattle.dep_model.specs.declared.column_type.ColumnType.{ColumnType}
-use Rattle.dep_model.specs.declared.column_type.ColumnType.TheVariants.{Text}
-use Rattle.dep_model.specs.Columns.{is_column_type}
-use Rattle.dep_model.specs.Schemas.{types_of, width_of}
+use Rattle.schema_model.specs.declared.column_type.ColumnType.{ColumnType}
+use Rattle.schema_model.specs.declared.column_type.ColumnType.TheVariants.{Text}
+use Rattle.schema_model.specs.Columns.{is_column_type}
+use Rattle.schema_model.specs.Schemas.{types_of, width_of}
 use Rattle.schema_printer.specs.Parts.{chosen}
 use Rattle.schema_printer.proofs.ChosenLemmas.{chosen_none, chosen_more, chosen_skip}
 use Rattle.schema_printer.proofs.parts.columns_in.Goals as goal

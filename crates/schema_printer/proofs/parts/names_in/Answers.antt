@@ -3,7 +3,7 @@
 use Rattle.std.proofs.Common.{◌≡◌, ◌+◌, List, ℕ, [], ◌++◌, ◌∷◌, sym, ap, subst, ◌∙◌, arith}
 use Rattle.std.proofs.lemmas.Option.{get_or_from_slice_get}
 use Rattle.attr_sets.specs.Sets.{attributes}
-use Rattle.dep_model.specs.Schemas.{names_of, width_of}
+use Rattle.schema_model.specs.Schemas.{names_of, width_of}
 use Rattle.schema_printer.specs.Parts.{chosen}
 use Rattle.schema_printer.proofs.ChosenLemmas.{chosen_none, chosen_more, chosen_skip}
 use Rattle.schema_printer.proofs.parts.names_in.Goals as goal

@@ -3,8 +3,8 @@
 use Rattle.std.proofs.Common.{◌≡◌, ◌<◌, ◌≤◌, ◌+◌, ◌-◌, ◌++◌, ◌∷◌, [], Some, length, map, drop, get_or, subst, ap, sym, ◌∙◌, arith, refl, append_assoc}
 use Rattle.std.specs.Prelude.{slice_get}
 use Rattle.std.proofs.lemmas.List.{drop_all}
-use Rattle.dep_model.specs.declared.column_type.ColumnType.TheVariants.{Text}
-use Rattle.dep_model.specs.Schemas.{types_of, width_of}
+use Rattle.schema_model.specs.declared.column_type.ColumnType.TheVariants.{Text}
+use Rattle.schema_model.specs.Schemas.{types_of, width_of}
 use Rattle.schema_printer.specs.Printing.{lines_text, run_line, runs_of}
 use Rattle.schema_printer.specs.Spelling.{printed_names_of}
 use Rattle.schema_printer.proofs.PrintLemmas.{drop-item, slice_get-get_or, runs_begin, PrintsRuns, added_before, after_text}

@@ -1,7 +1,7 @@
 -- What the loop of `add_runs` keeps: `PrintsRuns`.
 use Rattle.std.proofs.Common.{◌-◌, ◌<◌, get_or}
-use Rattle.dep_model.specs.Schemas.{types_of}
-use Rattle.dep_model.specs.declared.column_type.ColumnType.TheVariants.{Text}
+use Rattle.schema_model.specs.Schemas.{types_of}
+use Rattle.schema_model.specs.declared.column_type.ColumnType.TheVariants.{Text}
 use Rattle.schema_printer.specs.Spelling.{printed_names_of}
 use Rattle.schema_printer.proofs.PrintLemmas.{PrintsRuns}
 use Rattle.schema_printer.proofs.printing.add_runs.Given as goal

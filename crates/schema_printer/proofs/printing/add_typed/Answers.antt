@@ -1,8 +1,8 @@
 -- What is left to prove of `add_typed`: its clause `added`, by `PrintLemmas` and `SpellingLemmas`.
 use Rattle.std.proofs.Common.{◌≡◌, ◌++◌, ◌∷◌, [], ap, sym, ◌∙◌}
 use Rattle.std.specs.Prelude.{slice_index_or}
-use Rattle.dep_model.specs.declared.column_type.ColumnType.TheVariants.{Text}
-use Rattle.dep_model.specs.Schemas.{types_of}
+use Rattle.schema_model.specs.declared.column_type.ColumnType.TheVariants.{Text}
+use Rattle.schema_model.specs.Schemas.{types_of}
 use Rattle.schema_printer.specs.Printing.{type_word}
 use Rattle.schema_printer.specs.Spelling.{spelling, printed_names_of}
 use Rattle.schema_printer.proofs.PrintLemmas.{added_as, added_after}

@@ -3,7 +3,7 @@
 use Rattle.std.proofs.Common.{sym, ◌∙◌, ap}
 use Rattle.std.proofs.lemmas.List.Folds.{list_any_at, list_any_more}
 use Rattle.std.proofs.lemmas.Option.{get_or_from_slice_get, slice_get_within}
-use Rattle.dep_model.specs.Schemas.{types_of}
+use Rattle.schema_model.specs.Schemas.{types_of}
 use Rattle.schema_printer.specs.Printing.{is_integer}
 use Rattle.schema_printer.proofs.printing.has_integers.Goals as goal
 

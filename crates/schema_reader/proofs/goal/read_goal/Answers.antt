@@ -2,7 +2,7 @@
 use Rattle.std.proofs.Common.{◌≡◌, ◌∙◌, ap, sym}
 use Rattle.dep_model.specs.Dependencies.{IsWithin}
 use Rattle.dep_model.specs.Deps.{dependency_of}
-use Rattle.dep_model.specs.Schemas.{universe_of, naming_of, names_of}
+use Rattle.schema_model.specs.Schemas.{universe_of, naming_of, names_of}
 use Rattle.schema_grammar.specs.declared.format.Format.TheVariants as format
 use Rattle.schema_grammar.specs.Diagnostics.{RefusesGoal}
 use Rattle.schema_grammar.specs.Grammar.{start}

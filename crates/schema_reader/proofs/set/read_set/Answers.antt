@@ -3,7 +3,7 @@ use Rattle.std.proofs.Common.{◌∙◌, ℕ, List, sym, subst, ap, Result, Ok}
 use Rattle.attr_sets.specs.Attributes.{Attributes, IsSubset}
 use Rattle.dep_model.specs.Dependencies.{Dependency, IsWithin, right_of}
 use Rattle.dep_model.specs.Deps.{dependency_of}
-use Rattle.dep_model.specs.Schemas.{universe_of, naming_of, names_of}
+use Rattle.schema_model.specs.Schemas.{universe_of, naming_of, names_of}
 use Rattle.lexer.specs.Modes as mode
 use Rattle.lexer.specs.declared.mode.Mode.{Mode}
 use Rattle.lexer.specs.Tokens.{lex}

@@ -10,7 +10,7 @@ use Rattle.short_proofs.proofs.coalescences.unless_coalescence.Goals as goal
 
 pub returns : goal.returns
 returns c =
-    let s = c.args.schema.now in
+    let s = c.args.theory.now in
     let d = fd (attributes c.args.merged.lhs) (attributes c.args.merged.rhs) in
     let all = two_kept s d (λ (lifted : Bool) (u : Tree). (cut again : Bool) × (u ≡ tree_of_merged c.args.merged lifted cut again))
     (tree_of c.args.deriv.value) (tree_of c.in_ok-plain.plain.value) (tree_of c.in_ok-lifted.lifted.value)

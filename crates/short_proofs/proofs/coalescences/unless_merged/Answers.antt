@@ -10,7 +10,7 @@ use Rattle.short_proofs.proofs.coalescences.unless_merged.Goals as goal
 
 pub returns : goal.returns
 returns c =
-    let s = c.args.schema.now in
+    let s = c.args.theory.now in
     let d = fd (attributes c.args.merged.lhs) (attributes c.args.merged.rhs) in
     let all = four_kept s d (λ (cut again : Bool) (u : Tree). u ≡ tree_of_merged c.args.merged c.args.lifted cut again) (tree_of c.args.deriv.value) (tree_of c.in_ok-one.one.value) (tree_of c.in_ok-two.two.value)
     (tree_of c.in_ok-three.three.value) (tree_of c.in_ok-four.four.value)

@@ -10,7 +10,7 @@ use Rattle.short_proofs.proofs.differences.unless_difference.Goals as goal
 
 pub returns : goal.returns
 returns c =
-    let s = c.args.schema.now in
+    let s = c.args.theory.now in
     let d = mvd (attributes c.args.half.lhs) (attributes c.args.half.rhs) in
     let all = four_kept s d (λ (r co : Bool) (u : Tree). (lifted widened : Bool) × ((turned again : Bool) × (u ≡ transitivity_of (attributes c.args.half.lhs) (attributes c.args.half.rhs) (attributes c.args.half.middle) (start c.args.half.first.number c.args.half.first.replicated c.args.half.first.complemented) (start c.args.number r co) lifted widened turned again))) (tree_of c.args.deriv.value) (tree_of c.in_ok-one.one.value) (tree_of c.in_ok-two.two.value)
     (tree_of c.in_ok-three.three.value) (tree_of c.in_ok-four.four.value)

@@ -10,7 +10,7 @@ use Rattle.short_proofs.proofs.differences.unless_halves.Goals as goal
 
 pub returns : goal.returns
 returns c =
-    let s = c.args.schema.now in
+    let s = c.args.theory.now in
     let d = mvd (attributes c.args.halves.half.lhs) (attributes c.args.halves.half.rhs) in
     let all = four_kept s d (λ (lifted widened : Bool) (u : Tree). (turned again : Bool) × (u ≡ tree_of_halves c.args.halves lifted widened turned again)) (tree_of c.args.deriv.value) (tree_of c.in_ok-one.one.value) (tree_of c.in_ok-two.two.value)
     (tree_of c.in_ok-three.three.value) (tree_of c.in_ok-four.four.value)

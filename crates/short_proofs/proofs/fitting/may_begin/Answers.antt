@@ -8,14 +8,14 @@ use Rattle.attr_sets.specs.Sets.{attributes}
 use Rattle.dep_model.specs.declared.dep.Dep.{Dep}
 use Rattle.dep_model.specs.Dependencies.{Dependency, left_of}
 use Rattle.dep_model.specs.Deps.{dependency_of, dependencies_of}
-use Rattle.dep_model.specs.Schemas.{universe_of, theory_of}
+use Rattle.dep_model.specs.Theories.{universe_of, theory_of}
 use Rattle.short_proofs.specs.Short.{FitBeyond}
 use Rattle.short_proofs.proofs.fitting.may_begin.Goals as goal
 
 pub returns : goal.returns
 returns c = record {
   none = λ j e no inside at fit.
-      let s = c.args.schema.now in
+      let s = c.args.theory.now in
       let d = dependency_of c.args.goal in
       let w = attributes c.args.middle in
       let P : Dependency → Type 0 = λ (f : Dependency). FitBeyond (attributes c.beyond-rest.result) d w f → ⊥ in
@@ -28,5 +28,5 @@ returns c = record {
 pub returns-then-cuts_both : goal.returns-then-cuts_both
 returns-then-cuts_both c = record {
   none = λ j e no inside at fit.
-      c.cuts_both.ensures.none (difference (universe_of c.args.schema.now) (union (attributes c.args.middle) (left_of (dependency_of c.args.goal)))) e c.if-cuts_both.true fit;
+      c.cuts_both.ensures.none (difference (universe_of c.args.theory.now) (union (attributes c.args.middle) (left_of (dependency_of c.args.goal)))) e c.if-cuts_both.true fit;
 }

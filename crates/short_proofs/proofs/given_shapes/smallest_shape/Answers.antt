@@ -8,7 +8,7 @@ use Rattle.short_proofs.proofs.given_shapes.smallest_shape.Goals as goal
 
 pub loop-number-preserved : goal.loop-number-preserved
 loop-number-preserved c =
-    let s = c.args.schema.now in
+    let s = c.args.theory.now in
     let x = attributes c.args.lhs in
     let y = attributes c.args.rhs in
     let i = c.loop-number.number in

@@ -7,6 +7,6 @@ use Rattle.short_proofs.proofs.given_shapes.smallest_shape.Given as goal
 
 abbrev pub invariant-loop-number : goal.invariant-loop-number
 invariant-loop-number l = record {
-  fits : IfSome l.found (Fits l.schema (attributes l.lhs) (attributes l.rhs));
-  no_larger : (k : ℕ) (r c a t g : Bool) → k < l.number → IsNoLarger l.schema (attributes l.lhs) (attributes l.rhs) k r c a t g l.found;
+  fits : IfSome l.found (Fits l.theory (attributes l.lhs) (attributes l.rhs));
+  no_larger : (k : ℕ) (r c a t g : Bool) → k < l.number → IsNoLarger l.theory (attributes l.lhs) (attributes l.rhs) k r c a t g l.found;
 }

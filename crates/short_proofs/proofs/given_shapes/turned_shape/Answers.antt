@@ -7,7 +7,7 @@ use Rattle.short_proofs.proofs.given_shapes.turned_shape.Goals as goal
 
 pub returns : goal.returns
 returns c =
-    let s = c.args.schema.now in
+    let s = c.args.theory.now in
     let x = attributes c.args.lhs in
     let y = attributes c.args.rhs in
     record {

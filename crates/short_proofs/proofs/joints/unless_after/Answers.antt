@@ -11,7 +11,7 @@ use Rattle.short_proofs.proofs.joints.unless_after.Goals as goal
 
 pub loop-number-preserved : goal.loop-number-preserved
 loop-number-preserved c =
-    let s = c.args.schema.now in
+    let s = c.args.theory.now in
     let d = dependency_of c.args.goal in
     let first = start c.args.first.number c.args.first.replicated c.args.first.complemented in
     let before = tree_of c.loop-number.best.value in
@@ -23,7 +23,7 @@ loop-number-preserved c =
 
 pub returns-clause-short : goal.returns-clause-short
 returns-clause-short c = λ u is proves.
-    let low = given_low c.args.schema.now is.1.0 is.1.1.0 is.1.1.1 in
+    let low = given_low c.args.theory.now is.1.0 is.1.1.0 is.1.1.1 in
     let all = ap (λ (ds : List Dep). length ds) c.deps-number-end.ensures.deps in
     let passed = c.loop-number-test.false in
     c.loop-number.invariant.short is.1.0 (omega (arith, low, all, passed)) u is.1.1 proves

@@ -9,7 +9,7 @@ use Rattle.short_proofs.proofs.joints.unless_begun.Goals as goal
 
 pub returns : goal.returns
 returns c =
-    let s = c.args.schema.now in
+    let s = c.args.theory.now in
     let d = dependency_of c.args.goal in
     let all = four_kept s d (λ (r co : Bool) (u : Tree). IsJoinedFrom s d (start c.args.number r co) u) (tree_of c.args.deriv.value) (tree_of c.in_ok-one.one.value) (tree_of c.in_ok-two.two.value)
     (tree_of c.in_ok-three.three.value) (tree_of c.in_ok-four.four.value)

@@ -4,7 +4,7 @@ use Rattle.attr_sets.specs.Attributes.{Attributes, union, difference}
 use Rattle.attr_sets.specs.Sets.{attributes}
 use Rattle.dep_model.specs.declared.dep.Dep.{Dep}
 use Rattle.dep_model.specs.Deps.{dependency_of}
-use Rattle.dep_model.specs.Schemas.{universe_of}
+use Rattle.dep_model.specs.Theories.{universe_of}
 use Rattle.derivation.specs.Trees.{Tree}
 use Rattle.derivation.specs.Derivs.{tree_of}
 use Rattle.short_proofs.specs.Short.{start, SetsFit, FitBeyond, IsJoinedTree, IsCoalescence, IsNoLongerThan}
@@ -12,7 +12,7 @@ use Rattle.short_proofs.proofs.joints.unless_given.Goals as goal
 
 pub returns-then-not-fits-clause-short : goal.returns-then-not-fits-clause-short
 returns-then-not-fits-clause-short c = λ u is proves.
-    let s = c.args.schema.now in
+    let s = c.args.theory.now in
     let d = dependency_of c.args.goal in
     let w = attributes c.args.middle in
     let rest = c.beyond.ensures.members ∙ ap (λ (x : Attributes). difference (universe_of s) (union w x)) c.sides.ensures.left in
@@ -20,7 +20,7 @@ returns-then-not-fits-clause-short c = λ u is proves.
 
 pub returns-in_ok-joined-in-Mvd-clause-short : goal.returns-in_ok-joined-in-Mvd-clause-short
 returns-in_ok-joined-in-Mvd-clause-short c =
-    let s = c.args.schema.now in
+    let s = c.args.theory.now in
     let first = start c.args.first.number c.args.first.replicated c.args.first.complemented in
     subst
     (λ (e : Dep). IsNoLongerThan s (dependency_of e) (λ (u : Tree). SetsFit s (dependency_of e) (attributes c.args.middle) (dependency_of c.args.dep)
@@ -29,7 +29,7 @@ returns-in_ok-joined-in-Mvd-clause-short c =
 
 pub returns-in_ok-joined-in-Fd-clause-short : goal.returns-in_ok-joined-in-Fd-clause-short
 returns-in_ok-joined-in-Fd-clause-short c =
-    let s = c.args.schema.now in
+    let s = c.args.theory.now in
     let first = start c.args.first.number c.args.first.replicated c.args.first.complemented in
     subst
     (λ (e : Dep). IsNoLongerThan s (dependency_of e) (λ (u : Tree). SetsFit s (dependency_of e) (attributes c.args.middle) (dependency_of c.args.dep)

@@ -12,7 +12,7 @@ use Rattle.short_proofs.proofs.joints.unless_joined.Goals as goal
 
 pub loop-number-preserved : goal.loop-number-preserved
 loop-number-preserved c =
-    let s = c.args.schema.now in
+    let s = c.args.theory.now in
     let d = dependency_of c.args.goal in
     let before = tree_of c.loop-number.best.value in
     let now = tree_of c.in_ok-best.best.value in
@@ -23,7 +23,7 @@ loop-number-preserved c =
 
 pub returns-clause-short : goal.returns-clause-short
 returns-clause-short c = λ u is proves.
-    let low = start_low c.args.schema.now is.0 is.1.0 is.1.1 (mvd is.1.2.0 is.1.2.1) is.1.2.2 in
+    let low = start_low c.args.theory.now is.0 is.1.0 is.1.1 (mvd is.1.2.0 is.1.2.1) is.1.2.2 in
     let all = ap (λ (ds : List Dep). length ds) c.deps-number-end.ensures.deps in
     let passed = c.loop-number-test.false in
     c.loop-number.invariant.short is.0 (omega (arith, low, all, passed)) u is.1 proves

@@ -9,7 +9,7 @@ use Rattle.short_proofs.proofs.joints.unless_joined.Given as goal
 
 abbrev pub invariant-loop-number : goal.invariant-loop-number
 invariant-loop-number l = record {
-  kept : IsSameOrShorter l.schema (dependency_of l.goal) (tree_of l.fn.deriv.value) (tree_of l.best.value);
-  short : (k : ℕ) → k < l.number → IsNoLongerThan l.schema (dependency_of l.goal)
-      (λ (u : Tree). (r c : Bool) × IsJoinedFrom l.schema (dependency_of l.goal) (start k r c) u) (tree_of l.best.value);
+  kept : IsSameOrShorter l.theory (dependency_of l.goal) (tree_of l.fn.deriv.value) (tree_of l.best.value);
+  short : (k : ℕ) → k < l.number → IsNoLongerThan l.theory (dependency_of l.goal)
+      (λ (u : Tree). (r c : Bool) × IsJoinedFrom l.theory (dependency_of l.goal) (start k r c) u) (tree_of l.best.value);
 }

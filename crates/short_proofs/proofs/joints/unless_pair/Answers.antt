@@ -12,7 +12,7 @@ use Rattle.short_proofs.proofs.joints.unless_pair.Goals as goal
 
 pub returns-in_ok-after-in-Some-clause-short : goal.returns-in_ok-after-in-Some-clause-short
 returns-in_ok-after-in-Some-clause-short c = λ u is proves.
-    let s = c.args.schema.now in
+    let s = c.args.theory.now in
     let d = dependency_of c.args.goal in
     let first = start c.args.first.number c.args.first.replicated c.args.first.complemented in
     let here : Proves s (leaf (given c.args.number)) (dependency_of c.in-Some.dep) = (rw c.in-Some.is at c.given_dep.ensures.only) in
@@ -22,4 +22,4 @@ returns-in_ok-after-in-Some-clause-short c = λ u is proves.
 
 pub returns-in-None-clause-short : goal.returns-in-None-clause-short
 returns-in-None-clause-short c = λ u is proves.
-    absurd ((rw c.in-None.is at c.given_dep.ensures.only) is.0 (given_proves c.args.schema.now c.args.number is.0 is.1))
+    absurd ((rw c.in-None.is at c.given_dep.ensures.only) is.0 (given_proves c.args.theory.now c.args.number is.0 is.1))

@@ -12,7 +12,7 @@ use Rattle.short_proofs.proofs.joints.unless_start.Goals as goal
 
 pub returns-in_ok-after-in-Some-Mvd-clause-short : goal.returns-in_ok-after-in-Some-Mvd-clause-short
 returns-in_ok-after-in-Some-Mvd-clause-short c = λ u is proves.
-    let s = c.args.schema.now in
+    let s = c.args.theory.now in
     let d = dependency_of c.args.goal in
     let first = start c.args.number c.args.replicated c.args.complemented in
     let told : Proves s first (dependency_of c.in-Some-Mvd.field-0) = (rw c.in-Some-Mvd.is at c.start_dep.ensures.only) in

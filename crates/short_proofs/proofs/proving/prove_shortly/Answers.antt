@@ -15,7 +15,7 @@ use Rattle.short_proofs.proofs.proving.prove_shortly.Goals as goal
 
 pub returns-in_ok-shortest-in-Yes-Mvd-clause-direct : goal.returns-in_ok-shortest-in-Yes-Mvd-clause-direct
 returns-in_ok-shortest-in-Yes-Mvd-clause-direct c =
-    let s = c.args.schema.now in
+    let s = c.args.theory.now in
     let x = attributes c.in-Yes-Mvd.lhs in
     let y = attributes c.in-Yes-Mvd.rhs in
     let t = tree_of c.in-Yes-Mvd.deriv.value in
@@ -27,7 +27,7 @@ returns-in_ok-shortest-in-Yes-Mvd-clause-direct c =
 
 pub returns-in_ok-shortest_fd-in-Yes-Fd-clause-direct : goal.returns-in_ok-shortest_fd-in-Yes-Fd-clause-direct
 returns-in_ok-shortest_fd-in-Yes-Fd-clause-direct c =
-    let s = c.args.schema.now in
+    let s = c.args.theory.now in
     let x = attributes c.in-Yes-Fd.lhs in
     let y = attributes c.in-Yes-Fd.rhs in
     let t = tree_of c.in-Yes-Fd.deriv.value in
@@ -39,7 +39,7 @@ returns-in_ok-shortest_fd-in-Yes-Fd-clause-direct c =
 
 pub returns-in_ok-shortest_fd-in-Yes-Fd-clause-answer : goal.returns-in_ok-shortest_fd-in-Yes-Fd-clause-answer
 returns-in_ok-shortest_fd-in-Yes-Fd-clause-answer c =
-    let s = c.args.schema.now in
+    let s = c.args.theory.now in
     let d = fd (attributes c.in-Yes-Fd.lhs) (attributes c.in-Yes-Fd.rhs) in
     let t = tree_of c.in-Yes-Fd.deriv.value in
     let u = tree_of c.in_ok-shortest_fd-in-Yes-Fd.field-0.value in
@@ -52,8 +52,8 @@ returns-in_ok-shortest_fd-in-Yes-Fd-clause-answer c =
 
 pub returns-in_ok-shortest-in-Yes-Mvd-clause-short : goal.returns-in_ok-shortest-in-Yes-Mvd-clause-short
 returns-in_ok-shortest-in-Yes-Mvd-clause-short c =
-    subst (λ (e : Dep). IsShort c.args.schema.now (dependency_of e) (tree_of c.in_ok-shortest-in-Yes-Mvd.field-0.value)) (sym c.in-Yes-Mvd.is-1) c.in_ok-shortest-in-Yes-Mvd.ensures.short
+    subst (λ (e : Dep). IsShort c.args.theory.now (dependency_of e) (tree_of c.in_ok-shortest-in-Yes-Mvd.field-0.value)) (sym c.in-Yes-Mvd.is-1) c.in_ok-shortest-in-Yes-Mvd.ensures.short
 
 pub returns-in_ok-shortest_fd-in-Yes-Fd-clause-short : goal.returns-in_ok-shortest_fd-in-Yes-Fd-clause-short
 returns-in_ok-shortest_fd-in-Yes-Fd-clause-short c =
-    subst (λ (e : Dep). IsShort c.args.schema.now (dependency_of e) (tree_of c.in_ok-shortest_fd-in-Yes-Fd.field-0.value)) (sym c.in-Yes-Fd.is-1) c.in_ok-shortest_fd-in-Yes-Fd.ensures.short
+    subst (λ (e : Dep). IsShort c.args.theory.now (dependency_of e) (tree_of c.in_ok-shortest_fd-in-Yes-Fd.field-0.value)) (sym c.in-Yes-Fd.is-1) c.in_ok-shortest_fd-in-Yes-Fd.ensures.short

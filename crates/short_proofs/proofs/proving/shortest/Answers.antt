@@ -10,7 +10,7 @@ use Rattle.short_proofs.proofs.proving.shortest.Goals as goal
 
 pub returns : goal.returns
 returns c =
-    let s = c.args.schema.now in
+    let s = c.args.theory.now in
     let d = mvd (attributes c.args.lhs) (attributes c.args.rhs) in
     let t = tree_of c.args.deriv.value in
     let one = tree_of c.in_ok-shaped.shaped.value in

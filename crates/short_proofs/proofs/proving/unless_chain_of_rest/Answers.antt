@@ -5,7 +5,7 @@ use Rattle.std.proofs.lemmas.Bool.{false≢true, false_from_ne_true}
 use Rattle.attr_sets.specs.Attributes.{Attributes, below, union, difference}
 use Rattle.attr_sets.specs.Sets.{attributes}
 use Rattle.dep_model.specs.Dependencies.{fd, mvd}
-use Rattle.dep_model.specs.Schemas.{universe_of}
+use Rattle.dep_model.specs.Theories.{universe_of}
 use Rattle.derivation.specs.Trees.{Tree, nodes, depth}
 use Rattle.derivation.specs.Derivs.{tree_of}
 use Rattle.derivation.specs.Conclusions.{Proves}
@@ -19,16 +19,16 @@ use Rattle.short_proofs.proofs.proving.unless_chain_of_rest.Goals as goal
 use Rattle.short_proofs.proofs.proving.unless_chain_of_rest.Goals.{After-difference-rest}
 
 -- the rest is what is in neither side
-rest_is : (c : After-difference-rest) → attributes c.difference-rest.result ≡ difference (universe_of c.args.schema.now) (union (attributes c.args.lhs) (attributes c.args.rhs))
+rest_is : (c : After-difference-rest) → attributes c.difference-rest.result ≡ difference (universe_of c.args.theory.now) (union (attributes c.args.lhs) (attributes c.args.rhs))
 rest_is c =
-    let s = c.args.schema.now in
+    let s = c.args.theory.now in
     c.difference-rest.ensures.members
     ∙ ap (λ (p : Attributes). difference p (attributes c.union.result)) (c.full.ensures.members ∙ ap below c.width.ensures.count)
     ∙ ap (λ (p : Attributes). difference (universe_of s) p) c.union.ensures.members
 
 pub returns-in-None-clause-chains : goal.returns-in-None-clause-chains
 returns-in-None-clause-chains c = λ t shared chain proves.
-    let s = c.args.schema.now in
+    let s = c.args.theory.now in
     let rest = rest_is (goal.at.returns-in-None-clause-chains c).After-difference-rest in
     let own : IsFunctionalChain s (attributes c.args.lhs) (attributes c.difference-rest.result) t = subst (λ (z : Attributes). IsFunctionalChain s (attributes c.args.lhs) z t) (sym rest) chain in
     let some = c.in_ok-functional_chain.ensures.found_where_implied.1 (chain_obeyed s (attributes c.args.lhs) (attributes c.difference-rest.result) t own) in
@@ -36,7 +36,7 @@ returns-in-None-clause-chains c = λ t shared chain proves.
 
 pub returns-in_ok-other-in-Some-clause-kept : goal.returns-in_ok-other-in-Some-clause-kept
 returns-in_ok-other-in-Some-clause-kept c =
-    let s = c.args.schema.now in
+    let s = c.args.theory.now in
     let x = attributes c.args.lhs in
     let y = attributes c.args.rhs in
     let rest = attributes c.difference-rest.result in
@@ -55,7 +55,7 @@ by_shared Q first second false = second
 
 pub returns-in_ok-other-in-Some-clause-chains : goal.returns-in_ok-other-in-Some-clause-chains
 returns-in_ok-other-in-Some-clause-chains c = λ t shared chain proves.
-    let s = c.args.schema.now in
+    let s = c.args.theory.now in
     let x = attributes c.args.lhs in
     let y = attributes c.args.rhs in
     let rest = attributes c.difference-rest.result in

@@ -13,7 +13,7 @@ use Rattle.short_proofs.proofs.proving.unless_shape.Goals as goal
 
 pub returns-in_ok-shape_deriv-in-Some-clause-shapes : goal.returns-in_ok-shape_deriv-in-Some-clause-shapes
 returns-in_ok-shape_deriv-in-Some-clause-shapes c = λ t is proves.
-    let s = c.args.schema.now in
+    let s = c.args.theory.now in
     let d = mvd (attributes c.args.lhs) (attributes c.args.rhs) in
     let f = c.in-Some.shape in
     let shown = subst (λ (u : Tree). Proves s u d) is.10 proves in
@@ -27,7 +27,7 @@ returns-in_ok-shape_deriv-in-Some-clause-shapes c = λ t is proves.
 
 pub returns-in-None-clause-shapes : goal.returns-in-None-clause-shapes
 returns-in-None-clause-shapes c = λ t is proves.
-    let s = c.args.schema.now in
+    let s = c.args.theory.now in
     let d = mvd (attributes c.args.lhs) (attributes c.args.rhs) in
     let shown = subst (λ (u : Tree). Proves s u d) is.10 proves in
     let low = shape_given s is.0 is.1 is.2 is.3 is.4 is.5 is.6 is.7 is.8 is.9 d shown in

@@ -7,5 +7,5 @@ use Rattle.short_proofs.proofs.shapes.step_taken.Goals as goal
 
 pub returns-then-is_taken : goal.returns-then-is_taken
 returns-then-is_taken c = record {
-  only = λ t from. subst (λ (b : Bool). ConcludesOnly c.args.schema.now (taken b (step_of c.args.rule) t) c.step_dep.result) (sym c.if-is_taken.true) (c.step_dep.ensures.only t from);
+  only = λ t from. subst (λ (b : Bool). ConcludesOnly c.args.theory.now (taken b (step_of c.args.rule) t) c.step_dep.result) (sym c.if-is_taken.true) (c.step_dep.ensures.only t from);
 }

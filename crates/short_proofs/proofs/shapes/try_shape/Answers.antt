@@ -14,7 +14,7 @@ use Rattle.short_proofs.proofs.shapes.try_shape.Goals.{After-step_taken-end}
 abbrev start_tree : (c : After-step_taken-end) → Tree
 start_tree c = taken c.args.steps.complemented complementation (taken c.args.steps.replicated replication (leaf (given c.args.number)))
 
-start_only : (c : After-step_taken-end) → ConcludesOnly c.args.schema.now (start_tree c) c.step_taken-start.result
+start_only : (c : After-step_taken-end) → ConcludesOnly c.args.theory.now (start_tree c) c.step_taken-start.result
 start_only c = c.step_taken-start.ensures.only (taken c.args.steps.replicated replication (leaf (given c.args.number)))
     (c.step_taken-replica.ensures.only (leaf (given c.args.number)) c.given_dep-given.ensures.only)
 
@@ -23,9 +23,9 @@ abbrev turn_tree : (c : After-step_taken-end) → Tree
 turn_tree c = taken c.args.steps.turned complementation
     (taken c.args.steps.augmented (maugmentation (attributes c.missing_sides-first.result.wide) (attributes c.missing_sides-first.result.narrow)) (start_tree c))
 
-turn_only : (c : After-step_taken-end) → ConcludesOnly c.args.schema.now (turn_tree c) c.step_taken-turn.result
+turn_only : (c : After-step_taken-end) → ConcludesOnly c.args.theory.now (turn_tree c) c.step_taken-turn.result
 turn_only c =
-    let middle = subst (λ (rule : Step). ConcludesOnly c.args.schema.now (taken c.args.steps.augmented rule (start_tree c)) c.step_taken-middle.result) c.augmentation-rule.ensures.rule
+    let middle = subst (λ (rule : Step). ConcludesOnly c.args.theory.now (taken c.args.steps.augmented rule (start_tree c)) c.step_taken-middle.result) c.augmentation-rule.ensures.rule
     (c.step_taken-middle.ensures.only (start_tree c) (start_only c)) in
     c.step_taken-turn.ensures.only (taken c.args.steps.augmented (maugmentation (attributes c.missing_sides-first.result.wide) (attributes c.missing_sides-first.result.narrow)) (start_tree c)) middle
 
@@ -33,13 +33,13 @@ turn_only c =
 abbrev end_tree : (c : After-step_taken-end) → Tree
 end_tree c = taken c.args.steps.again (maugmentation (attributes c.missing_sides-second.result.wide) (attributes c.missing_sides-second.result.narrow)) (turn_tree c)
 
-end_only : (c : After-step_taken-end) → ConcludesOnly c.args.schema.now (end_tree c) c.step_taken-end.result
-end_only c = subst (λ (rule : Step). ConcludesOnly c.args.schema.now (taken c.args.steps.again rule (turn_tree c)) c.step_taken-end.result) c.augmentation-last.ensures.rule
+end_only : (c : After-step_taken-end) → ConcludesOnly c.args.theory.now (end_tree c) c.step_taken-end.result
+end_only c = subst (λ (rule : Step). ConcludesOnly c.args.theory.now (taken c.args.steps.again rule (turn_tree c)) c.step_taken-end.result) c.augmentation-last.ensures.rule
     (c.step_taken-end.ensures.only (turn_tree c) (turn_only c))
 
 pub returns-then-not-is_mvd-clause-no_larger : goal.returns-then-not-is_mvd-clause-no_larger
 returns-then-not-is_mvd-clause-no_larger c = λ w z w2 z2 proves.
-    let s = c.args.schema.now in
+    let s = c.args.theory.now in
     let at = (goal.at.returns-then-not-is_mvd-clause-no_larger c).After-step_taken-end in
     let missing = shape_missed c.step_taken-start.result c.step_taken-turn.result s (start_tree at) c.args.steps.augmented c.args.steps.turned c.args.steps.again w z w2 z2 (attributes c.args.lhs) (attributes c.args.rhs)
     (attributes c.missing_sides-first.result.wide) (attributes c.missing_sides-first.result.narrow) (attributes c.missing_sides-second.result.wide) (attributes c.missing_sides-second.result.narrow)
@@ -49,4 +49,4 @@ returns-then-not-is_mvd-clause-no_larger c = λ w z w2 z2 proves.
 pub returns-clause-fits : goal.returns-clause-fits
 returns-clause-fits c =
     let at = (goal.at.returns-clause-fits c).After-step_taken-end in
-    (c.is_mvd.ensures.is_mvd c.args.schema.now (end_tree at) (end_only at)).0 c.if-not-is_mvd.false
+    (c.is_mvd.ensures.is_mvd c.args.theory.now (end_tree at) (end_only at)).0 c.if-not-is_mvd.false

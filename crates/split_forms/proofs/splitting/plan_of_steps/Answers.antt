@@ -5,10 +5,10 @@ use Rattle.std.specs.Prelude.{All, Contains}
 use Rattle.std.proofs.lemmas.List.Elements.{All-weaker, All-contains, All-map}
 use Rattle.attr_sets.specs.Sets.{attributes}
 use Rattle.attr_sets.specs.declared.set.AttrSet.{AttrSet}
-use Rattle.dep_model.specs.declared.schema.Schema.{Schema}
+use Rattle.dep_model.specs.Theories.{Theory}
 use Rattle.dep_model.specs.Plans.{IsPlan, schemes_of}
 use Rattle.dep_model.specs.Projections.{IsLossless}
-use Rattle.dep_model.specs.Schemas.{width_of, theory_of}
+use Rattle.dep_model.specs.Theories.{width_of, theory_of}
 use Rattle.dep_model.proofs.ListLemmas.{Contains-map}
 use Rattle.normal_forms.specs.Chosen.{IsInForm}
 use Rattle.plans.specs.Containing.{without_contained}
@@ -17,12 +17,12 @@ use Rattle.split_forms.proofs.SplitLemmas.{lists_lossless}
 use Rattle.split_forms.proofs.WalkLemmas.{reached_plan}
 use Rattle.split_forms.proofs.splitting.plan_of_steps.Goals as goal
 
-attributes_not_empty : (s : Schema) → 0 < width_of s
-attributes_not_empty s = s.valid.names_not_empty
+attributes_not_empty : (s : Theory) → 0 < width_of s
+attributes_not_empty s = s.valid.not_empty
 
 pub new-requires : goal.new-requires
 new-requires c =
-    let s = c.args.schema.now in
+    let s = c.args.theory.now in
     let steps = c.args.steps.now in
     let copied : c.in_ok-schemes.schemes.items ≡ steps.schemes.items = c.in_ok-schemes.ensures.items ∙ c.deref.ensures.value in
     record {
@@ -38,7 +38,7 @@ returns-clause-kept c =
 
 pub returns-clause-lossless : goal.returns-clause-lossless
 returns-clause-lossless c =
-    let s = c.args.schema.now in
+    let s = c.args.theory.now in
     let steps = c.args.steps.now in
     let copied = c.in_ok-schemes.ensures.items ∙ c.deref.ensures.value in
     c.drop_contained.ensures.lossless (theory_of s)
@@ -48,7 +48,7 @@ returns-clause-lossless c =
 
 pub returns-clause-in_form : goal.returns-clause-in_form
 returns-clause-in_form c =
-    let s = c.args.schema.now in
+    let s = c.args.theory.now in
     let n = width_of s in
     let ds = theory_of s in
     let steps = c.args.steps.now in

@@ -2,12 +2,12 @@
 -- `LeadLemmas`.
 use Rattle.std.proofs.Common.{◌≡◌, ℕ, ◌-◌, ◌^◌, ◌<◌, ◌≤◌, List, sym, subst, arith}
 use Rattle.std.specs.Prelude.{Result, Err, IfErr}
-use Rattle.dep_model.specs.declared.schema.Schema.{Schema}
+use Rattle.dep_model.specs.Theories.{Theory}
 use Rattle.dep_model.specs.Failures.{RefusesAs}
 use Rattle.dep_model.specs.declared.failure.Failure.{Failure}
 use Rattle.dep_model.specs.declared.failure.Failure.TheVariants.{Refused}
 use Rattle.dep_model.specs.Plans.{schemes_of}
-use Rattle.dep_model.specs.Schemas.{width_of, theory_of}
+use Rattle.dep_model.specs.Theories.{width_of, theory_of}
 use Rattle.dep_model.specs.Dependencies.{Dependency}
 use Rattle.dep_model.specs.declared.form.Form.{Form}
 use Rattle.dep_model.specs.declared.form.Form.TheVariants.{Third}
@@ -22,8 +22,8 @@ use Rattle.split_forms.proofs.LeadLemmas.{steps_finish}
 use Rattle.split_forms.proofs.SplitLemmas.{too_many_short}
 use Rattle.split_forms.proofs.splitting.split.Goals as goal
 
-attributes_not_empty : (s : Schema) → 0 < width_of s
-attributes_not_empty s = s.valid.names_not_empty
+attributes_not_empty : (s : Theory) → 0 < width_of s
+attributes_not_empty s = s.valid.not_empty
 
 never : (n : ℕ) (ds : List Dependency) (form : Form) (limit : ℕ) (result : Result Plan (Failure SplitRefusal)) → 0 < n
     → (form ≡ Third → ⊥) → IfErr result (RefusesAs (IsRefusedSplit n ds form limit))
@@ -35,12 +35,12 @@ never n ds form limit result not_empty split refused large is =
 
 pub returns-in-Err-clause-never_too_many : goal.returns-in-Err-clause-never_too_many
 returns-in-Err-clause-never_too_many c large is =
-    let s = c.args.schema.now in
+    let s = c.args.theory.now in
     never (width_of s) (theory_of s) c.args.form c.args.limit (Err c.in-Err.failure) (attributes_not_empty s) c.requires.form
     c.in-Err.ensures.refused large is
 
 -- the list that the cuts lead to, in the form of the steps
-finished : (s : Schema) (form : Form) (steps : SplitSteps) → steps.form ≡ form
+finished : (s : Theory) (form : Form) (steps : SplitSteps) → steps.form ≡ form
     → AreSplitSteps (width_of s) (theory_of s) form (cuttings_of steps.cuts.items) (schemes_of steps.schemes.items)
     → FinishedList (width_of s) (theory_of s) steps.form (schemes_of steps.schemes.items)
 finished s form steps is lead =
@@ -49,11 +49,11 @@ finished s form steps is lead =
 
 pub plan_of_steps-requires-clause-finished : goal.plan_of_steps-requires-clause-finished
 plan_of_steps-requires-clause-finished c =
-    finished c.args.schema.now c.args.form c.in-Ok.steps c.in-Ok.ensures.form c.in-Ok.ensures.steps
+    finished c.args.theory.now c.args.form c.in-Ok.steps c.in-Ok.ensures.form c.in-Ok.ensures.steps
 
 pub returns-in_ok-plan_of_steps-in-Ok-clause-finished : goal.returns-in_ok-plan_of_steps-in-Ok-clause-finished
 returns-in_ok-plan_of_steps-in-Ok-clause-finished c =
-    let s = c.args.schema.now in
+    let s = c.args.theory.now in
     let steps = c.in-Ok.steps in
     record {
       all = steps.schemes.items;

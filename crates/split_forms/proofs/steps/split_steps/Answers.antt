@@ -5,9 +5,9 @@ use Rattle.std.proofs.Common.{◌≡◌, ◌<◌, ◌≤◌, List, [], ◌∷◌
 use Rattle.std.proofs.lemmas.List.{length-map, map_push}
 use Rattle.attr_sets.specs.Attributes.{below}
 use Rattle.attr_sets.specs.Sets.{attributes}
-use Rattle.dep_model.specs.declared.schema.Schema.{Schema}
+use Rattle.dep_model.specs.Theories.{Theory}
 use Rattle.dep_model.specs.Plans.{schemes_of}
-use Rattle.dep_model.specs.Schemas.{width_of, theory_of}
+use Rattle.dep_model.specs.Theories.{width_of, theory_of}
 use Rattle.split_forms.specs.declared.outcome.Outcome.{Outcome}
 use Rattle.split_forms.specs.declared.steps.SchemeCut.{SchemeCut}
 use Rattle.split_forms.specs.Outcomes.{IsOutcome}
@@ -18,25 +18,25 @@ use Rattle.split_forms.proofs.WalkLemmas.{walk_on, walk_many, walk_cut, walk_lea
 use Rattle.split_forms.proofs.steps.split_steps.Goals as goal
 use Rattle.split_forms.proofs.steps.split_steps.Goals.{In-Cut}
 
-attributes_not_empty : (s : Schema) → 0 < width_of s
-attributes_not_empty s = s.valid.names_not_empty
+attributes_not_empty : (s : Theory) → 0 < width_of s
+attributes_not_empty s = s.valid.not_empty
 
 -- the scheme is cut by what was found
-is_cut : (c : In-Cut) → IsCutBy (width_of c.args.schema.now) (theory_of c.args.schema.now) c.args.form (attributes c.index-scheme.result.now) (attributes c.in-Cut.breach.lhs) (attributes c.in-Cut.breach.rhs)
+is_cut : (c : In-Cut) → IsCutBy (width_of c.args.theory.now) (theory_of c.args.theory.now) c.args.form (attributes c.index-scheme.result.now) (attributes c.in-Cut.breach.lhs) (attributes c.in-Cut.breach.rhs)
 is_cut c =
-    let s = c.args.schema.now in
+    let s = c.args.theory.now in
     subst (λ (o : Outcome). IsOutcome (width_of s) (theory_of s) c.args.form (attributes c.index-scheme.result.now) o) c.in-Cut.is c.in_ok-found_outcome.ensures.outcome
 
 pub found_outcome-requires-clause-scheme : goal.found_outcome-requires-clause-scheme
 found_outcome-requires-clause-scheme c =
-    let s = c.args.schema.now in
+    let s = c.args.theory.now in
     walk_within (width_of s) (theory_of s) c.args.form c.loop-at.schemes.items c.loop-at.at c.index-scheme.result.now
     (omega arith) (sym c.index-scheme.ensures) c.loop-at.invariant.walked
     (attributes_not_empty s) c.requires.form
 
 pub loop-at-preserved-in-Whole : goal.loop-at-preserved-in-Whole
 loop-at-preserved-in-Whole c =
-    let s = c.args.schema.now in
+    let s = c.args.theory.now in
     let scheme = c.index-scheme.result.now in
     let stays : StaysWhole (width_of s) (theory_of s) c.args.form (attributes scheme) =
     subst (λ (o : Outcome). IsOutcome (width_of s) (theory_of s) c.args.form (attributes scheme) o) c.in-Whole.is
@@ -51,7 +51,7 @@ loop-at-preserved-in-Whole c =
 
 pub returns-in-Stuck-clause-refused : goal.returns-in-Stuck-clause-refused
 returns-in-Stuck-clause-refused c =
-    let s = c.args.schema.now in
+    let s = c.args.theory.now in
     let n = width_of s in
     let ds = theory_of s in
     let scheme = c.index-scheme.result.now in
@@ -65,7 +65,7 @@ returns-in-Stuck-clause-refused c =
 
 pub returns-then-len-most-clause-refused : goal.returns-then-len-most-clause-refused
 returns-then-len-most-clause-refused c =
-    let s = c.args.schema.now in
+    let s = c.args.theory.now in
     let n = width_of s in
     let ds = theory_of s in
     let scheme = c.index-scheme.result.now in
@@ -79,7 +79,7 @@ returns-then-len-most-clause-refused c =
 
 pub loop-at-preserved : goal.loop-at-preserved
 loop-at-preserved c =
-    let s = c.args.schema.now in
+    let s = c.args.theory.now in
     let n = width_of s in
     let ds = theory_of s in
     let scheme = c.index-scheme.result.now in
@@ -103,7 +103,7 @@ loop-at-preserved c =
 
 pub loop-at-smaller : goal.loop-at-smaller
 loop-at-smaller c =
-    let s = c.args.schema.now in
+    let s = c.args.theory.now in
     let n = width_of s in
     let ds = theory_of s in
     let scheme = c.index-scheme.result.now in
@@ -123,13 +123,13 @@ loop-at-smaller c =
 
 pub returns-clause-steps : goal.returns-clause-steps
 returns-clause-steps c =
-    let s = c.args.schema.now in
+    let s = c.args.theory.now in
     let done = walk_end (width_of s) (theory_of s) c.args.form c.loop-at.schemes.items c.loop-at.at (omega arith) c.loop-at.invariant.walked in
     record { lead = c.loop-at.invariant.lead; whole = done.whole }
 
 pub returns-clause-within_limits : goal.returns-clause-within_limits
 returns-clause-within_limits c =
-    let s = c.args.schema.now in
+    let s = c.args.theory.now in
     let n = width_of s in
     let ds = theory_of s in
     let all = c.loop-at.schemes.items in

@@ -3,7 +3,7 @@ use Rattle.std.proofs.Common.{List, sym, subst}
 use Rattle.std.proofs.lemmas.List.Elements.{All-contains}
 use Rattle.attr_sets.specs.Attributes.{Attributes}
 use Rattle.attr_sets.specs.Sets.{attributes}
-use Rattle.dep_model.specs.Schemas.{width_of, theory_of}
+use Rattle.dep_model.specs.Theories.{width_of, theory_of}
 use Rattle.split_forms.specs.declared.outcome.Outcome.{Outcome}
 use Rattle.split_forms.specs.declared.trying.Tried.{Tried}
 use Rattle.split_forms.specs.Outcomes.{IsOutcome, AreTried}
@@ -11,8 +11,8 @@ use Rattle.split_forms.proofs.trying.found_outcome.Goals as goal
 
 pub returns-in-Some-clause-outcome : goal.returns-in-Some-clause-outcome
 returns-in-Some-clause-outcome c =
-    let n = width_of c.args.schema.now in
-    let ds = theory_of c.args.schema.now in
+    let n = width_of c.args.theory.now in
+    let ds = theory_of c.args.theory.now in
     let form = c.args.form in
     let all : AreTried n ds form c.deref.result.now =
     subst (λ (ts : List Tried). AreTried n ds form ts) (sym c.deref.ensures.value) c.requires.tried in

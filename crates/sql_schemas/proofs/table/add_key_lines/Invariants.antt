@@ -1,7 +1,7 @@
 -- What the loop of `add_key_lines` keeps: the lines of the keys so far stand at the end of the text.
 use Rattle.std.proofs.Common.{◌≡◌, ◌++◌, take}
 use Rattle.std.specs.Prelude.{map}
-use Rattle.dep_model.specs.Schemas.{nullable_of}
+use Rattle.schema_model.specs.Schemas.{nullable_of}
 use Rattle.schema_printer.specs.Printing.{lines_text}
 use Rattle.schema_printer.specs.Spelling.{printed_names_of}
 use Rattle.sql_schemas.specs.KeyValues.{key_columns}

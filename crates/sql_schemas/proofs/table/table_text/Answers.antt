@@ -2,7 +2,7 @@
 use Rattle.std.proofs.Common.{ℕ, List, [], ◌++◌, ◌∙◌, ap}
 use Rattle.std.specs.Prelude.{map}
 use Rattle.attr_sets.specs.Attributes.{Attributes}
-use Rattle.dep_model.specs.Schemas.{nullable_of}
+use Rattle.schema_model.specs.Schemas.{nullable_of}
 use Rattle.schema_printer.specs.Printing.{lines_text}
 use Rattle.schema_printer.specs.Spelling.{printed_names_of}
 use Rattle.sql_schemas.specs.declared.keys.TableKey.{TableKey}

@@ -8,7 +8,7 @@ use Rattle.dep_model.specs.declared.dep.Dep.{Dep}
 use Rattle.dep_model.specs.declared.dep.Dep.TheVariants.{Fd}
 use Rattle.dep_model.specs.Dependencies.{Dependency}
 use Rattle.dep_model.specs.Deps.{dependency_of}
-use Rattle.dep_model.specs.Schemas.{lines_of, theory_of, deps_of}
+use Rattle.schema_model.specs.Schemas.{lines_of, theory_of, deps_of}
 use Rattle.sql_scripts.specs.Checking.{rule_text}
 use Rattle.sql_scripts.proofs.ItemLemmas.{zip_more, zip_all}
 use Rattle.sql_scripts.proofs.checking.add_rules.Goals as goal

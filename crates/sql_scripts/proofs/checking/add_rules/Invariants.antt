@@ -1,7 +1,7 @@
 -- What the loop of `add_rules` keeps, in terms of `lines_of`, `theory_of` and `rule_text`.
 use Rattle.std.proofs.Common.{◌≡◌, ◌++◌, take}
 use Rattle.std.specs.List.{flat_map, zip}
-use Rattle.dep_model.specs.Schemas.{lines_of, theory_of}
+use Rattle.schema_model.specs.Schemas.{lines_of, theory_of}
 use Rattle.sql_scripts.specs.Checking.{rule_text}
 use Rattle.sql_scripts.proofs.checking.add_rules.Given as goal
 

@@ -2,9 +2,9 @@
 use Rattle.std.proofs.Common.{◌≡◌, ℕ, Bool, List, [], subst, sym, ap, ◌∙◌}
 use Rattle.std.proofs.lemmas.Option.{get_or_from_slice_get}
 use Rattle.std.specs.Prelude.{IfOk}
-use Rattle.dep_model.specs.declared.column_type.ColumnType.{ColumnType}
-use Rattle.dep_model.specs.declared.column_type.ColumnType.TheVariants.{Text}
-use Rattle.dep_model.specs.Schemas.{names_of, types_of}
+use Rattle.schema_model.specs.declared.column_type.ColumnType.{ColumnType}
+use Rattle.schema_model.specs.declared.column_type.ColumnType.TheVariants.{Text}
+use Rattle.schema_model.specs.Schemas.{names_of, types_of}
 use Rattle.schema_printer.specs.Printing.{is_integer}
 use Rattle.sql_syntax.specs.Printing.{item_text}
 use Rattle.sql_check.specs.Columns.{type_at}

@@ -4,7 +4,7 @@ use Rattle.std.proofs.Common.{◌∙◌, ◌+◌}
 use Rattle.std.specs.List.{range_with_len}
 use Rattle.ddl_text.proofs.TextLemmas.{item_more}
 use Rattle.sql_scripts.specs.Checking.{value_text}
-use Rattle.sql_scripts.proofs.ListingLemmas.{range_more}
+use Rattle.dep_model.proofs.ListLemmas.{range_more}
 use Rattle.sql_scripts.proofs.integers.add_integers.Goals as goal
 
 pub loop-attribute-preserved : goal.loop-attribute-preserved

@@ -3,7 +3,7 @@ use Rattle.std.proofs.Common.{◌≡◌, ap, subst, ◌∙◌}
 use Rattle.std.specs.Prelude.{◌↔◌, IsTrue}
 use Rattle.attr_sets.specs.Attributes.{Attributes, below, intersection, IsEmpty}
 use Rattle.attr_sets.specs.Sets.{attributes}
-use Rattle.dep_model.specs.Schemas.{width_of}
+use Rattle.schema_model.specs.Schemas.{width_of}
 use Rattle.sql_scripts.proofs.ListingLemmas.{members_told}
 use Rattle.sql_scripts.proofs.listing.has_members.Goals as goal
 

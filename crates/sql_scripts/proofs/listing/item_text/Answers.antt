@@ -2,10 +2,10 @@
 use Rattle.std.proofs.Common.{◌≡◌, ℕ, Bool, List, [], subst, sym, ap, ◌∙◌}
 use Rattle.std.proofs.lemmas.Option.{get_or_from_slice_get}
 use Rattle.std.specs.Prelude.{IfOk}
-use Rattle.dep_model.specs.declared.column_type.ColumnType.{ColumnType}
-use Rattle.dep_model.specs.declared.column_type.ColumnType.TheVariants.{Text}
-use Rattle.dep_model.specs.Columns.{is_plain_type}
-use Rattle.dep_model.specs.Schemas.{names_of, types_of}
+use Rattle.schema_model.specs.declared.column_type.ColumnType.{ColumnType}
+use Rattle.schema_model.specs.declared.column_type.ColumnType.TheVariants.{Text}
+use Rattle.schema_model.specs.Columns.{is_plain_type}
+use Rattle.schema_model.specs.Schemas.{names_of, types_of}
 use Rattle.sql_syntax.specs.Printing.{item_text}
 use Rattle.sql_check.specs.Columns.{type_at}
 use Rattle.sql_scripts.specs.Listing.{item_with}

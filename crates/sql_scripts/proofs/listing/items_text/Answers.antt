@@ -4,7 +4,7 @@ use Rattle.std.specs.Prelude.{IfOk}
 use Rattle.attr_sets.specs.Attributes.{count_below}
 use Rattle.attr_sets.specs.Sets.{attributes}
 use Rattle.dep_model.specs.Projections.{members_below}
-use Rattle.dep_model.specs.Schemas.{width_of}
+use Rattle.schema_model.specs.Schemas.{width_of}
 use Rattle.sql_syntax.specs.Printing.{item_text}
 use Rattle.sql_scripts.specs.Listing.{item_of}
 use Rattle.sql_scripts.proofs.ListingLemmas.{comma_list-map}

@@ -2,7 +2,7 @@
 use Rattle.std.proofs.Common.{◌≡◌, ℕ, List, false, subst, ap, ◌∙◌}
 use Rattle.std.specs.Prelude.{IfOk, codes}
 use Rattle.attr_sets.specs.Attributes.{Attributes, below}
-use Rattle.dep_model.specs.Schemas.{universe_of}
+use Rattle.schema_model.specs.Schemas.{universe_of}
 use Rattle.sql_syntax.specs.Names.{comma_list}
 use Rattle.sql_syntax.specs.Printing.{selected_text, item_text}
 use Rattle.sql_check.specs.Columns.{items_on}

@@ -2,7 +2,7 @@
 use Rattle.std.proofs.Common.{◌≡◌, ℕ, List, [], ◌++◌, subst, sym}
 use Rattle.std.proofs.lemmas.Option.{get_or_from_slice_get}
 use Rattle.std.specs.Prelude.{IfOk, codes}
-use Rattle.dep_model.specs.Schemas.{names_of}
+use Rattle.schema_model.specs.Schemas.{names_of}
 use Rattle.sql_syntax.specs.Names.{quoted_name}
 use Rattle.sql_scripts.specs.Listing.{missing_test}
 use Rattle.sql_scripts.proofs.missing.missing_test.Goals as goal

@@ -4,7 +4,7 @@ use Rattle.std.specs.Prelude.{IfOk, codes}
 use Rattle.attr_sets.specs.Attributes.{Attributes, below, difference}
 use Rattle.attr_sets.specs.Sets.{attributes}
 use Rattle.dep_model.specs.Projections.{members_below}
-use Rattle.dep_model.specs.Schemas.{width_of, universe_of}
+use Rattle.schema_model.specs.Schemas.{width_of, universe_of}
 use Rattle.sql_check.specs.Checks.{required_of}
 use Rattle.sql_scripts.specs.Checking.{missing_text}
 use Rattle.sql_scripts.proofs.ListingLemmas.{missing_line}

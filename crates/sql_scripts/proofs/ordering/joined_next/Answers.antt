@@ -1,12 +1,13 @@
 -- What is left to prove of `joined_next`: that a round of its loop keeps the invariant, by `order_more`, and
 -- what it answers.
-use Rattle.std.proofs.Common.{◌≡◌, ◌<◌, ◌∷◌, [], List, length, get_or, sym, ap, subst, arith}
+use Rattle.std.proofs.Common.{◌≡◌, ◌<◌, ◌∷◌, [], List, length, get_or, sym, ap, subst, arith, not}
 use Rattle.std.specs.List.{remove}
 use Rattle.std.proofs.lemmas.List.Edits.{length-remove}
 use Rattle.attr_sets.specs.Attributes.{none}
-use Rattle.attr_sets.specs.Sets.{attributes}
+use Rattle.attr_sets.specs.Sets.{attributes, is_disjoint}
 use Rattle.sql_migrate.specs.declared.joining.JoinedTable.{JoinedTable}
-use Rattle.sql_migrate.specs.ViewOrder.{share, put_first, joined_next}
+use Rattle.dep_model.specs.JoinOrders.{put_first, joined_next}
+use Rattle.sql_migrate.specs.Script.{scheme_of_joined}
 use Rattle.sql_scripts.proofs.OrderLemmas.{order_more, order_done}
 use Rattle.sql_scripts.proofs.ordering.joined_next.Goals as goal
 
@@ -20,9 +21,9 @@ loop-round-preserved c =
     let less = length-remove left i low in
     record {
       order = order_more c.loop-round.order.items c.push.new.self.items left c.remove-table.new.self.items
-          (joined_next (length c.args.tables.items) none c.args.tables.items) (attributes c.loop-round.seen) (attributes c.union-seen.result) i c.remove-table.result
+          (joined_next scheme_of_joined (length c.args.tables.items) none c.args.tables.items) (attributes c.loop-round.seen) (attributes c.union-seen.result) i c.remove-table.result
           low c.remove-table.ensures.value c.remove-table.ensures.items
-          (λ d. subst (λ (ts : List JoinedTable). get_or ts i d ∷ remove ts i ≡ put_first (λ t. share (attributes c.loop-round.seen) (attributes t.scheme)) [] ts) same
+          (λ d. subst (λ (ts : List JoinedTable). get_or ts i d ∷ remove ts i ≡ put_first (λ t. not (is_disjoint (attributes c.loop-round.seen) (attributes t.scheme))) [] ts) same
           (c.first_sharing.ensures.first d))
           c.union-seen.ensures.members c.in_ok-push.ensures.items before.order;
       count = let so_far = before.count in
@@ -41,6 +42,6 @@ returns c =
     let count = c.loop-round.invariant.count in
     let done : length c.loop-round.left.items ≡ 0 = grind (arith, c.len-round-end.ensures, c.loop-round-test.false, count) in
     record {
-      order = order_done c.loop-round.order.items c.loop-round.left.items (joined_next (length c.args.tables.items) none c.args.tables.items)
+      order = order_done c.loop-round.order.items c.loop-round.left.items (joined_next scheme_of_joined (length c.args.tables.items) none c.args.tables.items)
           (attributes c.loop-round.seen) done c.loop-round.invariant.order;
     }

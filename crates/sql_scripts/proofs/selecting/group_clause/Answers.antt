@@ -3,7 +3,7 @@ use Rattle.std.proofs.Common.{◌≡◌, ◌++◌, ℕ, List, sym, subst, ap, �
 use Rattle.std.specs.Prelude.{IfOk, codes}
 use Rattle.attr_sets.specs.Sets.{attributes}
 use Rattle.dep_model.specs.Projections.{members_below}
-use Rattle.dep_model.specs.Schemas.{width_of}
+use Rattle.schema_model.specs.Schemas.{width_of}
 use Rattle.sql_check.specs.Columns.{column_at}
 use Rattle.sql_scripts.proofs.ListingLemmas.{group_not_empty}
 use Rattle.sql_scripts.proofs.selecting.group_clause.Goals as goal

@@ -4,7 +4,7 @@ use Rattle.std.specs.Prelude.{IfOk, codes}
 use Rattle.std.specs.Fmt.{decimal}
 use Rattle.attr_sets.specs.Sets.{attributes}
 use Rattle.dep_model.specs.Projections.{members_below}
-use Rattle.dep_model.specs.Schemas.{width_of}
+use Rattle.schema_model.specs.Schemas.{width_of}
 use Rattle.sql_syntax.specs.Names.{comma_list}
 use Rattle.sql_syntax.specs.Printing.{selected_text, item_text}
 use Rattle.sql_syntax.specs.Syntax.{attribute, column, named}

@@ -4,7 +4,7 @@ use Rattle.std.specs.Fmt.{decimal}
 use Rattle.std.specs.Prelude.{IfOk, if◌then◌else◌, codes}
 use Rattle.attr_sets.specs.Attributes.{Attributes}
 use Rattle.attr_sets.specs.Sets.{attributes}
-use Rattle.dep_model.specs.declared.schema.Schema.{Schema}
+use Rattle.schema_model.specs.Schemas.{Schema}
 use Rattle.sql_syntax.specs.Names.{comma_list}
 use Rattle.sql_syntax.specs.Printing.{selected_text, item_text, group_text, source_text, query_text, in_brackets}
 use Rattle.sql_check.specs.Columns.{groups_on, groups_shown}

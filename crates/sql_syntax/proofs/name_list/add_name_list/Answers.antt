@@ -2,7 +2,7 @@
 -- the invariant, by `NameLemmas`.
 use Rattle.std.proofs.Common.{◌≡◌, ◌++◌, ◌<◌, false, List, [], ℕ, take, take_all, get_or, length, sym, subst, arith}
 use Rattle.attr_sets.specs.Sets.{attributes}
-use Rattle.dep_model.specs.Schemas.{names_of}
+use Rattle.schema_model.specs.Schemas.{names_of}
 use Rattle.schema_printer.specs.Printing.{members_from}
 use Rattle.schema_printer.proofs.MemberLemmas.{names_inside, names_outside}
 use Rattle.sql_syntax.specs.Names.{quoted_name, comma_list}

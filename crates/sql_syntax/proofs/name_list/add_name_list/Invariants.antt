@@ -1,7 +1,7 @@
 -- What the loop of `add_name_list` keeps: `added` and `any_written`.
 use Rattle.std.proofs.Common.{◌≡◌, ◌++◌, take}
 use Rattle.attr_sets.specs.Sets.{attributes}
-use Rattle.dep_model.specs.Schemas.{names_of}
+use Rattle.schema_model.specs.Schemas.{names_of}
 use Rattle.schema_printer.specs.Printing.{members_from}
 use Rattle.sql_syntax.specs.Names.{quoted_name, comma_list, is_not_empty}
 use Rattle.sql_syntax.proofs.name_list.add_name_list.Given as goal

@@ -7,7 +7,7 @@ use Rattle.attr_sets.specs.Attributes.{Attributes, below}
 use Rattle.dep_model.specs.Dependencies.{functional_part}
 use Rattle.dep_model.specs.Keys.{IsSuperkey}
 use Rattle.dep_model.specs.Plans.{schemes_of}
-use Rattle.dep_model.specs.Schemas.{width_of, theory_of}
+use Rattle.dep_model.specs.Theories.{width_of, theory_of}
 use Rattle.synthesis_3nf.specs.GroupedPlans.{HoldSuperkey}
 use Rattle.synthesis_3nf.proofs.LoopLemmas.{none_more}
 use Rattle.synthesis_3nf.proofs.completing.hold_superkey.Goals as goal
@@ -17,7 +17,7 @@ loop-scheme-init c found = absurd (omega (arith, found.2))
 
 pub loop-scheme-preserved : goal.loop-scheme-preserved
 loop-scheme-preserved c =
-    let s = c.args.schema.now in
+    let s = c.args.theory.now in
     let n = width_of s in
     let first : AttrSet = record { 0 = 0 } in
     none_more (λ (x : Attributes). IsSuperkey n (functional_part (theory_of s)) (below n) x) c.args.schemes.now c.loop-scheme.scheme-index first c.loop-scheme-test.true c.loop-scheme.invariant
@@ -25,7 +25,7 @@ loop-scheme-preserved c =
 
 pub returns : goal.returns
 returns c =
-    let s = c.args.schema.now in
+    let s = c.args.theory.now in
     record {
       superkey = (
         λ fact. absurd (false≢true fact),

@@ -6,14 +6,14 @@ use Rattle.std.proofs.lemmas.Bool.{false≢true}
 use Rattle.attr_sets.specs.declared.set.AttrSet.{AttrSet}
 use Rattle.attr_sets.specs.Sets.{attributes}
 use Rattle.dep_model.specs.Plans.{schemes_of}
-use Rattle.dep_model.specs.Schemas.{width_of, theory_of}
+use Rattle.dep_model.specs.Theories.{width_of, theory_of}
 use Rattle.synthesis_3nf.specs.GroupedPlans.{HoldSuperkey}
 use Rattle.synthesis_3nf.proofs.completing.with_key.Goals.{then-not-hold_superkey+in_ok-push, else-not-hold_superkey}
 use Rattle.synthesis_3nf.proofs.completing.with_key.Goals as goal
 
 pub returns : goal.returns
 returns c =
-    let s = c.args.schema.now in
+    let s = c.args.theory.now in
     let n = width_of s in
     let ds = theory_of s in
     let old = c.args.schemes.items in

@@ -3,10 +3,11 @@
 use Rattle.std.proofs.Common.{◌≡◌, List, [], map, ap, subst, ◌∙◌}
 use Rattle.attr_sets.specs.declared.set.AttrSet.{AttrSet}
 use Rattle.attr_sets.specs.Attributes.{Attributes}
+use Rattle.attr_sets.specs.Sets.{attributes}
 use Rattle.dep_model.specs.declared.dep.Dep.{Dep}
 use Rattle.dep_model.specs.Deps.{dependencies_of}
 use Rattle.dep_model.specs.Plans.{schemes_of}
-use Rattle.dep_model.specs.Schemas.{width_of, theory_of, nullable_of}
+use Rattle.dep_model.specs.Theories.{width_of, theory_of}
 use Rattle.synthesis_3nf.specs.Groups.{group_scheme, left_sides_after, schemes_of_groups}
 use Rattle.synthesis_3nf.specs.GroupedPlans.{IsWithKey}
 use Rattle.synthesis_3nf.proofs.MadeLemmas.{groups_within}
@@ -26,17 +27,17 @@ grouped c =
 
 pub with_key-requires : goal.with_key-requires
 with_key-requires c = record {
-  within = groups_within c.args.schema.now c.in_ok-cover.cover.items c.in_ok-groups.groups.items
+  within = groups_within c.args.theory.now c.in_ok-cover.cover.items c.in_ok-groups.groups.items
       (record { minimal = c.in_ok-cover.ensures.minimal; within = c.in_ok-cover.ensures.within })
       (grouped (goal.at.with_key-requires c).In_ok-groups);
 }
 
 pub returns-clause-steps : goal.returns-clause-steps
 returns-clause-steps c =
-    let s = c.args.schema.now in
+    let s = c.args.theory.now in
     record {
       fixed = c.in_ok-cover.ensures.fixed;
-      completed = subst (λ (xs : List Attributes). IsWithKey (width_of s) (theory_of s) (nullable_of s) xs (schemes_of c.in_ok-schemes.schemes.items))
+      completed = subst (λ (xs : List Attributes). IsWithKey (width_of s) (theory_of s) (attributes c.args.nullable) xs (schemes_of c.in_ok-schemes.schemes.items))
           (grouped (goal.at.returns-clause-steps c).In_ok-groups) c.in_ok-schemes.ensures.completed;
     }
 

@@ -4,14 +4,14 @@ use Rattle.std.proofs.Common.{◌≡◌, true, List, sym, subst, ap, ◌∙◌}
 use Rattle.std.specs.Prelude.{All, Contains}
 use Rattle.std.specs.List.{list_any}
 use Rattle.attr_sets.specs.declared.set.AttrSet.{AttrSet}
-use Rattle.attr_sets.specs.Attributes.{below}
+use Rattle.attr_sets.specs.Attributes.{Attributes, below}
 use Rattle.dep_model.specs.declared.dep.Dep.{Dep}
-use Rattle.dep_model.specs.declared.schema.Schema.{Schema}
+use Rattle.dep_model.specs.Theories.{Theory}
 use Rattle.dep_model.specs.Dependencies.{IsWithin}
 use Rattle.dep_model.specs.Deps.{dependencies_of}
 use Rattle.dep_model.specs.Plans.{IsPlan, schemes_of}
 use Rattle.dep_model.specs.Projections.{IsLossless}
-use Rattle.dep_model.specs.Schemas.{width_of, theory_of, nullable_of}
+use Rattle.dep_model.specs.Theories.{width_of, theory_of}
 use Rattle.plans.specs.Containing.{lies_within, without_contained}
 use Rattle.synthesis_3nf.specs.GroupedPlans.{AreSynthesisSteps}
 use Rattle.synthesis_3nf.proofs.CompleteLemmas.{IsSynthesized, are_plan, are_lossless, kept_third, kept_keeps}
@@ -19,23 +19,24 @@ use Rattle.synthesis_3nf.proofs.MadeLemmas.{IsCovered, attributes_within_limit, 
 use Rattle.synthesis_3nf.proofs.synthesis.plan_of_steps.Goals as goal
 
 -- what is known of the steps
-record AreMade (s : Schema) (cover : List Dep) (all : List AttrSet) : Type 0 where
+record AreMade (s : Theory) (cover : List Dep) (all : List AttrSet) : Type 0 where
   covered : IsCovered s cover
-  steps : AreSynthesisSteps (width_of s) (theory_of s) (nullable_of s) (dependencies_of cover) (schemes_of all)
+  nullable : Attributes
+  steps : AreSynthesisSteps (width_of s) (theory_of s) nullable (dependencies_of cover) (schemes_of all)
 
-module _ (s : Schema) (cover : List Dep) (all : List AttrSet) (made : AreMade s cover all) where
+module _ (s : Theory) (cover : List Dep) (all : List AttrSet) (made : AreMade s cover all) where
   members : All (IsWithin (below (width_of s))) (dependencies_of cover)
   members = members_within s cover made.covered
 
   all_made : IsSynthesized (width_of s) (theory_of s) (dependencies_of cover) (schemes_of all)
-  all_made = synthesized s cover all made.covered made.steps.completed
+  all_made = synthesized s made.nullable cover all made.covered made.steps.completed
 
 pub new-requires : goal.new-requires
 new-requires c =
-    let s = c.args.schema.now in
+    let s = c.args.theory.now in
     let steps = c.args.steps.now in
     let made : AreMade s steps.cover.items steps.schemes.items =
-    record { covered = record { minimal = c.requires.minimal; within = c.requires.within }; steps = c.requires.steps } in
+    record { covered = record { minimal = c.requires.minimal; within = c.requires.within }; nullable = c.requires.steps.0; steps = c.requires.steps.1 } in
     let copied : c.in_ok-schemes.schemes.items ≡ steps.schemes.items = c.in_ok-schemes.ensures.items ∙ c.deref.ensures.value in
     record {
       plan = subst (λ (xs : List AttrSet). IsPlan (width_of s) (schemes_of xs)) (sym copied)
@@ -48,22 +49,22 @@ returns-clause-kept c =
     c.drop_contained.ensures.schemes ∙ ap (λ (xs : List AttrSet). without_contained xs) (c.new.ensures.schemes ∙ copied)
 
 pub returns-clause-grouped : goal.returns-clause-grouped
-returns-clause-grouped c =
+returns-clause-grouped c nullable are =
     let steps = c.args.steps.now in
     let copied = c.in_ok-schemes.ensures.items ∙ c.deref.ensures.value in
     record {
       cover = dependencies_of steps.cover.items;
       all = steps.schemes.items;
-      steps = c.requires.steps;
+      steps = are;
       kept = c.drop_contained.ensures.schemes ∙ ap (λ (xs : List AttrSet). without_contained xs) (c.new.ensures.schemes ∙ copied);
     }
 
 pub returns-clause-lossless : goal.returns-clause-lossless
 returns-clause-lossless c =
-    let s = c.args.schema.now in
+    let s = c.args.theory.now in
     let steps = c.args.steps.now in
     let made : AreMade s steps.cover.items steps.schemes.items =
-    record { covered = record { minimal = c.requires.minimal; within = c.requires.within }; steps = c.requires.steps } in
+    record { covered = record { minimal = c.requires.minimal; within = c.requires.within }; nullable = c.requires.steps.0; steps = c.requires.steps.1 } in
     let copied = c.in_ok-schemes.ensures.items ∙ c.deref.ensures.value in
     c.drop_contained.ensures.lossless (theory_of s)
     (subst (λ (xs : List AttrSet). IsLossless (width_of s) (theory_of s) (schemes_of xs)) (sym (c.new.ensures.schemes ∙ copied))
@@ -71,10 +72,10 @@ returns-clause-lossless c =
 
 pub returns-clause-third : goal.returns-clause-third
 returns-clause-third c =
-    let s = c.args.schema.now in
+    let s = c.args.theory.now in
     let steps = c.args.steps.now in
     let made : AreMade s steps.cover.items steps.schemes.items =
-    record { covered = record { minimal = c.requires.minimal; within = c.requires.within }; steps = c.requires.steps } in
+    record { covered = record { minimal = c.requires.minimal; within = c.requires.within }; nullable = c.requires.steps.0; steps = c.requires.steps.1 } in
     let copied = c.in_ok-schemes.ensures.items ∙ c.deref.ensures.value in
     let kept = c.drop_contained.result.schemes.items in
     kept_third _ _ _ (attributes_within_limit s) (attributes_not_empty s) made.covered.minimal (members _ _ _ made) _ kept (all_made _ _ _ made)
@@ -82,10 +83,10 @@ returns-clause-third c =
 
 pub returns-clause-keeps : goal.returns-clause-keeps
 returns-clause-keeps c =
-    let s = c.args.schema.now in
+    let s = c.args.theory.now in
     let steps = c.args.steps.now in
     let made : AreMade s steps.cover.items steps.schemes.items =
-    record { covered = record { minimal = c.requires.minimal; within = c.requires.within }; steps = c.requires.steps } in
+    record { covered = record { minimal = c.requires.minimal; within = c.requires.within }; nullable = c.requires.steps.0; steps = c.requires.steps.1 } in
     let copied = c.in_ok-schemes.ensures.items ∙ c.deref.ensures.value in
     let kept = c.drop_contained.result.schemes.items in
     kept_keeps _ _ _ (attributes_within_limit s) (attributes_not_empty s) made.covered.minimal (members _ _ _ made) _ kept (all_made _ _ _ made)

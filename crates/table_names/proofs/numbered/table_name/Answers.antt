@@ -2,11 +2,11 @@
 -- require, and that its sums fit, by `is_table_name` and `last_bytes`.
 use Rattle.std.proofs.Common.{◌≡◌, ℕ, ◌-◌, ◌≤◌, length, drop, take, List, Option, append-nil, arith, sym, subst, ◌∙◌, IsTrue}
 use Rattle.std.specs.Prelude.{IfSome}
-use Rattle.dep_model.specs.declared.name.Name.{Name}
+use Rattle.schema_model.specs.declared.name.Name.{Name}
 use Rattle.std.specs.Fmt.{decimal}
 use Rattle.std.proofs.lemmas.Fmt.{length-decimal-le}
-use Rattle.dep_model.specs.Names.{is_bare_name}
-use Rattle.dep_model.proofs.NameLemmas.{bare_name_is_name}
+use Rattle.schema_model.specs.Names.{is_bare_name}
+use Rattle.schema_model.proofs.NameLemmas.{bare_name_is_name}
 use Rattle.table_names.proofs.NumeralLemmas.{is_table_name, last_bytes}
 use Rattle.table_names.proofs.numbered.table_name.Goals as goal
 

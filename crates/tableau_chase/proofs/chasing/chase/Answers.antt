@@ -14,7 +14,7 @@ use Rattle.dep_model.specs.declared.dep.Dep.{Dep}
 use Rattle.dep_model.specs.Tuples.{Relation}
 use Rattle.dep_model.specs.Deps.{dependencies_of}
 use Rattle.dep_model.specs.Projections.{IsLossless}
-use Rattle.dep_model.specs.Schemas.{width_of, theory_of}
+use Rattle.dep_model.specs.Theories.{width_of, theory_of}
 use Rattle.chase_laws.specs.Tableaux.{Tableau, SameTableau, IsTableauOver, distinguished_row}
 use Rattle.chase_laws.specs.Rounds.{ClosesFunctionallyTo, IsMadeOf, RoundsExceed}
 use Rattle.chase_laws.proofs.RoundLemmas.{functional_within_limit}
@@ -22,7 +22,7 @@ use Rattle.chase_laws.proofs.SoundLemmas.{lossless_from_distinguished}
 use Rattle.chase_laws.proofs.ClosedLemmas.{gaining_lossy}
 use Rattle.dep_model.specs.Plans.{schemes_of}
 use Rattle.tableau_chase.specs.Making.{AddsAll, Overflows}
-use Rattle.tableau_chase.proofs.ChaseLemmas.{EndsLossy, first_round, first_exceeds, round_over, closed_over, reached_closed, next_round, next_lower, ended, next_exceeds, ends_lossy, closed_typed, functional_none}
+use Rattle.tableau_chase.proofs.ChaseLemmas.{EndsLossy, first_round, first_exceeds, round_over, closed_over, reached_closed, next_round, next_lower, ended, next_exceeds, ends_lossy, functional_none}
 use Rattle.tableau_chase.proofs.PoolLemmas.{extends_length}
 use Rattle.tableau_chase.proofs.chasing.chase.Goals as goal
 use Rattle.tableau_chase.proofs.chasing.chase.Goals.{In-Ok-pool_of, Else-has_distinguished, After-drop-rows-then-has_distinguished, After-drop-rows-in-Err-add_next, After-drop-pool-in-loop-rows, After-drop-rows-then-len-count}
@@ -35,15 +35,15 @@ refused_pool : (failure : Failure ChaseRefusal) → ◌≡◌ {A = Result Chased
 refused_pool failure e = let same : failure ≡ Refused TooManyRows = cc in ap {B = Result Pool (Failure ChaseRefusal)} (λ (f : Failure ChaseRefusal). Err f) same
 
 pub loop-rows-init : goal.loop-rows-init
-loop-rows-init c = first_round c.width-width.result (theory_of c.args.schema.now) (schemes_of c.args.schemes.now) c.args.limit c.in-Ok.pool.rows.items c.in-Ok.ensures.same c.in-Ok.ensures.pool.differ c.in-Ok.ensures.pool.within_limit
+loop-rows-init c = first_round c.width-width.result (theory_of c.args.theory.now) (schemes_of c.args.schemes.now) c.args.limit c.in-Ok.pool.rows.items c.in-Ok.ensures.same c.in-Ok.ensures.pool.differ c.in-Ok.ensures.pool.within_limit
 
 pub close_functionally-requires-clause-over : goal.close_functionally-requires-clause-over
 close_functionally-requires-clause-over c =
     subst (λ (r : Tableau). IsTableauOver c.width-width.result r) (sym c.deref_mut.ensures.value)
-    (round_over c.width-width.result (theory_of c.args.schema.now) (schemes_of c.args.schemes.now) c.args.limit c.loop-rows.rows.items c.loop-rows.invariant)
+    (round_over c.width-width.result (theory_of c.args.theory.now) (schemes_of c.args.schemes.now) c.args.limit c.loop-rows.rows.items c.loop-rows.invariant)
 
 -- what the rows of a round close functionally to
-closes : (c : In-Ok-pool_of) → ClosesFunctionallyTo (theory_of c.args.schema.now) c.loop-rows.rows.items c.close_functionally.new.rows
+closes : (c : In-Ok-pool_of) → ClosesFunctionallyTo (theory_of c.args.theory.now) c.loop-rows.rows.items c.close_functionally.new.rows
 closes c =
     let s = c.close_functionally.new.rows in
     subst (λ (d : List Dep). ClosesFunctionallyTo (dependencies_of d) c.loop-rows.rows.items s) c.deps-deps.ensures.deps
@@ -58,7 +58,7 @@ pooled c =
 
 over : (c : In-Ok-pool_of) → IsTableauOver c.width-width.result c.in-Ok-pool_of.pool.rows.items
 over c =
-    closed_over c.width-width.result (theory_of c.args.schema.now) (schemes_of c.args.schemes.now) c.args.limit c.loop-rows.rows.items c.close_functionally.new.rows
+    closed_over c.width-width.result (theory_of c.args.theory.now) (schemes_of c.args.schemes.now) c.args.limit c.loop-rows.rows.items c.close_functionally.new.rows
     c.in-Ok-pool_of.pool.rows.items c.loop-rows.invariant (closes c) (pooled c)
 
 pub has_distinguished-requires : goal.has_distinguished-requires
@@ -80,7 +80,7 @@ lacks c h =
 
 pub returns-then-has_distinguished-clause-within_limit : goal.returns-then-has_distinguished-clause-within_limit
 returns-then-has_distinguished-clause-within_limit c =
-    let ds = theory_of c.args.schema.now in
+    let ds = theory_of c.args.theory.now in
     let plan = schemes_of c.args.schemes.now in
     let at = (goal.at.returns-then-has_distinguished-clause-within_limit c).In-Ok-pool_of in
     subst (λ (m : ℕ). RoundsExceed m ds plan c.args.limit → ⊥) c.width-width.ensures.count
@@ -89,7 +89,7 @@ returns-then-has_distinguished-clause-within_limit c =
 pub returns-then-has_distinguished-clause-lossless : goal.returns-then-has_distinguished-clause-lossless
 returns-then-has_distinguished-clause-lossless c =
     let n = c.width-width.result in
-    let ds = theory_of c.args.schema.now in
+    let ds = theory_of c.args.theory.now in
     let plan = schemes_of c.args.schemes.now in
     let t = c.in-Ok-pool_of.pool.rows.items in
     let at = (goal.at.returns-then-has_distinguished-clause-lossless c).In-Ok-pool_of in
@@ -99,22 +99,22 @@ returns-then-has_distinguished-clause-lossless c =
 
 pub returns-in-Err-clause-too_many_rows : goal.returns-in-Err-clause-too_many_rows
 returns-in-Err-clause-too_many_rows c e =
-    subst (λ (m : ℕ). RoundsExceed m (theory_of c.args.schema.now) (schemes_of c.args.schemes.now) c.args.limit) c.width-width.ensures.count
-    (first_exceeds c.width-width.result (theory_of c.args.schema.now) (schemes_of c.args.schemes.now) c.args.limit (c.in-Err.ensures.too_many (refused_pool c.in-Err.failure e)))
+    subst (λ (m : ℕ). RoundsExceed m (theory_of c.args.theory.now) (schemes_of c.args.schemes.now) c.args.limit) c.width-width.ensures.count
+    (first_exceeds c.width-width.result (theory_of c.args.theory.now) (schemes_of c.args.schemes.now) c.args.limit (c.in-Err.ensures.too_many (refused_pool c.in-Err.failure e)))
 
 pub returns-in-Err-clause-never_too_many : goal.returns-in-Err-clause-never_too_many
 returns-in-Err-clause-never_too_many c whole low e =
-    let ds = theory_of c.args.schema.now in
+    let ds = theory_of c.args.theory.now in
     let plan = schemes_of c.args.schemes.now in
     functional_within_limit c.width-width.result ds plan c.args.limit (functional_none ds whole) (omega (arith, low, length-map c.args.schemes.now attributes))
     (first_exceeds c.width-width.result ds plan c.args.limit (c.in-Err.ensures.too_many (refused_pool c.in-Err.failure e)))
 
 -- a next tableau with too many rows
 exceeds : (c : After-drop-rows-in-Err-add_next) → ◌≡◌ {A = Result Chased (Failure ChaseRefusal)} (Err c.in-Err-add_next.failure) (Err (Refused TooManyRows))
-    → RoundsExceed c.width-width.result (theory_of c.args.schema.now) (schemes_of c.args.schemes.now) c.args.limit
+    → RoundsExceed c.width-width.result (theory_of c.args.theory.now) (schemes_of c.args.schemes.now) c.args.limit
 exceeds c e =
     let n = c.width-width.result in
-    let ds = theory_of c.args.schema.now in
+    let ds = theory_of c.args.theory.now in
     let t = c.in-Ok-pool_of.pool.rows.items in
     let at = goal.at.After-drop-rows-in-Err-add_next c in
     let overflows : Overflows (IsMadeOf n ds t) c.args.limit t = subst (λ (d : List Dep). Overflows (IsMadeOf n (dependencies_of d) t) c.args.limit t) c.deps-deps.ensures.deps
@@ -124,15 +124,15 @@ exceeds c e =
 
 pub returns-in-Err-add_next-clause-too_many_rows : goal.returns-in-Err-add_next-clause-too_many_rows
 returns-in-Err-add_next-clause-too_many_rows c e =
-    subst (λ (m : ℕ). RoundsExceed m (theory_of c.args.schema.now) (schemes_of c.args.schemes.now) c.args.limit) c.width-width.ensures.count (exceeds c e)
+    subst (λ (m : ℕ). RoundsExceed m (theory_of c.args.theory.now) (schemes_of c.args.schemes.now) c.args.limit) c.width-width.ensures.count (exceeds c e)
 
 pub returns-in-Err-add_next-clause-never_too_many : goal.returns-in-Err-add_next-clause-never_too_many
 returns-in-Err-add_next-clause-never_too_many c whole low e =
-    let ds = theory_of c.args.schema.now in
+    let ds = theory_of c.args.theory.now in
     functional_within_limit c.width-width.result ds (schemes_of c.args.schemes.now) c.args.limit (functional_none ds whole) (omega (arith, low, length-map c.args.schemes.now attributes)) (exceeds c e)
 
 -- a next tableau with more rows
-adds : (c : After-drop-pool-in-loop-rows) → AddsAll (IsMadeOf c.width-width.result (theory_of c.args.schema.now) c.in-Ok-pool_of.pool.rows.items) c.in-Ok-pool_of.pool.rows.items c.add_next.new.pool.rows.items
+adds : (c : After-drop-pool-in-loop-rows) → AddsAll (IsMadeOf c.width-width.result (theory_of c.args.theory.now) c.in-Ok-pool_of.pool.rows.items) c.in-Ok-pool_of.pool.rows.items c.add_next.new.pool.rows.items
 adds c =
     let t = c.in-Ok-pool_of.pool.rows.items in
     subst (λ (d : List Dep). AddsAll (IsMadeOf c.width-width.result (dependencies_of d) t) t c.add_next.new.pool.rows.items) c.deps-deps.ensures.deps c.in_default.ensures.next
@@ -144,22 +144,22 @@ grows c =
 pub loop-rows-preserved : goal.loop-rows-preserved
 loop-rows-preserved c =
     let at = goal.at.loop-rows-preserved c in
-    next_round c.width-width.result (theory_of c.args.schema.now) (schemes_of c.args.schemes.now) c.args.limit c.loop-rows.rows.items c.close_functionally.new.rows
+    next_round c.width-width.result (theory_of c.args.theory.now) (schemes_of c.args.schemes.now) c.args.limit c.loop-rows.rows.items c.close_functionally.new.rows
     c.in-Ok-pool_of.pool.rows.items c.loop-rows.invariant (closes at.In-Ok-pool_of) (pooled at.In-Ok-pool_of) c.add_next.new.pool.rows.items (adds c)
     c.in_default.ensures.pool.differ c.in_default.ensures.pool.within_limit (lacks at.Else-has_distinguished) (grows c)
 
 pub loop-rows-smaller : goal.loop-rows-smaller
 loop-rows-smaller c =
     let at = goal.at.loop-rows-smaller c in
-    next_lower c.width-width.result (theory_of c.args.schema.now) (schemes_of c.args.schemes.now) c.args.limit c.loop-rows.rows.items c.close_functionally.new.rows
+    next_lower c.width-width.result (theory_of c.args.theory.now) (schemes_of c.args.schemes.now) c.args.limit c.loop-rows.rows.items c.close_functionally.new.rows
     c.in-Ok-pool_of.pool.rows.items c.loop-rows.invariant (closes at.In-Ok-pool_of) (pooled at.In-Ok-pool_of) c.add_next.new.pool.rows.items (adds c)
     c.in_default.ensures.pool.differ c.in_default.ensures.pool.within_limit (grows c)
 
 -- the end at a closed tableau
-ends : (c : After-drop-rows-then-len-count) → EndsLossy (width_of c.args.schema.now) (theory_of c.args.schema.now) (schemes_of c.args.schemes.now) c.args.limit c.in_ok-ascending_texts.field-0.items
+ends : (c : After-drop-rows-then-len-count) → EndsLossy (width_of c.args.theory.now) (theory_of c.args.theory.now) (schemes_of c.args.schemes.now) c.args.limit c.in_ok-ascending_texts.field-0.items
 ends c =
     let n = c.width-width.result in
-    let ds = theory_of c.args.schema.now in
+    let ds = theory_of c.args.theory.now in
     let plan = schemes_of c.args.schemes.now in
     let t = c.in-Ok-pool_of.pool.rows.items in
     let at = goal.at.After-drop-rows-then-len-count c in
@@ -178,7 +178,7 @@ returns-then-len-count-clause-within_limit c = (ends c).within
 pub returns-then-len-count-clause-lossless : goal.returns-then-len-count-clause-lossless
 returns-then-len-count-clause-lossless c = (
   (λ e. absurd cc),
-  (λ lossless. absurd (gaining_lossy (width_of c.args.schema.now) (theory_of c.args.schema.now) (schemes_of c.args.schemes.now) c.in_ok-ascending_texts.field-0.items (ends c).gains lossless)),
+  (λ lossless. absurd (gaining_lossy (width_of c.args.theory.now) (theory_of c.args.theory.now) (schemes_of c.args.schemes.now) c.in_ok-ascending_texts.field-0.items (ends c).gains lossless)),
 )
 
 pub returns-then-len-count-clause-closed_tableau : goal.returns-then-len-count-clause-closed_tableau
@@ -186,7 +186,3 @@ returns-then-len-count-clause-closed_tableau c = (ends c).closed
 
 pub returns-then-len-count-clause-gaining : goal.returns-then-len-count-clause-gaining
 returns-then-len-count-clause-gaining c = (ends c).gains
-
-pub returns-then-len-count-clause-typed : goal.returns-then-len-count-clause-typed
-returns-then-len-count-clause-typed c =
-    closed_typed c.args.schema.now (schemes_of c.args.schemes.now) c.args.limit c.in_ok-ascending_texts.field-0.items (omega (arith, c.requires.fits_u32, length-map c.args.schemes.now attributes)) (ends c).closed

@@ -1,7 +1,7 @@
 -- What is left to prove of `attribute_by_guess`: what it answers in one case, by `named_here`.
 use Rattle.std.proofs.Common.{◌≡◌, ◌<◌, length, ◌∙◌, sym, ap, arith}
 use Rattle.std.specs.Str.{str_to_ascii_lowercase}
-use Rattle.dep_model.specs.Schemas.{names_of}
+use Rattle.schema_model.specs.Schemas.{names_of}
 use Rattle.tokens.proofs.NameLemmas.{named_here}
 use Rattle.tokens.proofs.names.attribute_by_guess.Goals as goal
 

@@ -1,7 +1,7 @@
 -- The law `typed_relation_gains`, by what typed_rows says of legal relations, joins and tuples.
 use Rattle.std.proofs.Common.{List, length}
 use Rattle.attr_sets.specs.Attributes.{Attributes}
-use Rattle.dep_model.specs.declared.column_type.ColumnType.{ColumnType}
+use Rattle.schema_model.specs.declared.column_type.ColumnType.{ColumnType}
 use Rattle.dep_model.specs.Tuples.{Relation}
 use Rattle.dep_model.specs.Dependencies.{Dependency}
 use Rattle.dep_model.specs.TwoTuples.{all_zeros}

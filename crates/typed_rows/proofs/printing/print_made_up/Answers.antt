@@ -1,6 +1,6 @@
 -- What is left to prove of `print_made_up`: what `print_rows` requires.
 use Rattle.std.proofs.Common.{◌≡◌, ℕ, length, subst, sym, ◌∙◌}
-use Rattle.dep_model.specs.Schemas.{types_of, width_of}
+use Rattle.schema_model.specs.Schemas.{types_of, width_of}
 use Rattle.dep_model.specs.Tuples.{Relation, IsOver}
 use Rattle.typed_rows.proofs.RelationLemmas.{over-typed}
 use Rattle.typed_rows.specs.Typed.{typed_relation}

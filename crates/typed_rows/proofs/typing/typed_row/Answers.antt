@@ -1,7 +1,7 @@
 -- What is left to prove of `typed_row`: that a round of its loop keeps the invariant, by `typed_more`.
 use Rattle.std.proofs.Common.{◌≡◌, ◌<◌, ℕ, List, [], ◌∷◌, ◌++◌, length, take, add-one, sym, ap, ◌∙◌, arith}
 use Rattle.std.specs.Str.Parse.{digits_value}
-use Rattle.dep_model.specs.Schemas.{types_of}
+use Rattle.schema_model.specs.Schemas.{types_of}
 use Rattle.dep_model.specs.Tuples.{Tuple, value_at}
 use Rattle.column_values.specs.MadeUp.{made_up}
 use Rattle.typed_rows.specs.Typed.{typed_tuple}

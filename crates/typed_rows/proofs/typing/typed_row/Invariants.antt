@@ -1,6 +1,6 @@
 -- What the loop of `typed_row` keeps: the values so far.
 use Rattle.std.proofs.Common.{◌≡◌, take}
-use Rattle.dep_model.specs.Schemas.{types_of}
+use Rattle.schema_model.specs.Schemas.{types_of}
 use Rattle.typed_rows.specs.Typed.{typed_tuple}
 use Rattle.typed_rows.proofs.typing.typed_row.Given as goal
 

@@ -1,6 +1,6 @@
 -- What is left to prove of `typed_rows`: that its rows fit the columns, by `fits_schema`.
 use Rattle.std.proofs.Common.{sym, ap, subst, ◌∙◌, take_all}
-use Rattle.dep_model.specs.Schemas.{types_of}
+use Rattle.schema_model.specs.Schemas.{types_of}
 use Rattle.dep_model.specs.Tuples.{Relation}
 use Rattle.column_values.specs.Values.{FitsColumns}
 use Rattle.typed_rows.specs.Typed.{typed_relation}

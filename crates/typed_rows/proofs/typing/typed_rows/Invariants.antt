@@ -1,6 +1,6 @@
 -- What the loop of `typed_rows` keeps: the rows so far.
 use Rattle.std.proofs.Common.{◌≡◌, take}
-use Rattle.dep_model.specs.Schemas.{types_of}
+use Rattle.schema_model.specs.Schemas.{types_of}
 use Rattle.typed_rows.specs.Typed.{typed_relation}
 use Rattle.typed_rows.proofs.typing.typed_rows.Given as goal
 

@@ -2,7 +2,7 @@
 use Rattle.std.proofs.Common.{sym, ◌∙◌}
 use Rattle.std.proofs.lemmas.Bool.{true≢false}
 use Rattle.attr_sets.specs.Sets.{attributes}
-use Rattle.dep_model.specs.Schemas.{width_of, theory_of}
+use Rattle.dep_model.specs.Theories.{width_of, theory_of}
 use Rattle.wide_bcnf.proofs.PairLemmas.{pair_begins}
 use Rattle.wide_bcnf.proofs.pairs.can_begin.Goals as goal
 
@@ -12,7 +12,7 @@ returns-then-not-contains c = record
 
 pub returns : goal.returns
 returns c =
-    let s = c.args.schema.now in
+    let s = c.args.theory.now in
     record {
       begins = λ d pair. c.determines.ensures.implied.1
           (pair_begins (width_of s) (theory_of s) (attributes c.args.scheme)

@@ -2,7 +2,7 @@
 use Rattle.std.proofs.Common.{sym, ◌∙◌}
 use Rattle.std.proofs.lemmas.Bool.{true≢false, false≢true}
 use Rattle.attr_sets.specs.Sets.{attributes}
-use Rattle.dep_model.specs.Schemas.{width_of, theory_of}
+use Rattle.dep_model.specs.Theories.{width_of, theory_of}
 use Rattle.wide_bcnf.proofs.PairLemmas.{pair_from, pair_second, pair_rest}
 use Rattle.wide_bcnf.proofs.pairs.is_pair.Goals as goal
 
@@ -16,7 +16,7 @@ returns-then-not-contains c = record {
 
 pub returns-then-not-contains-2 : goal.returns-then-not-contains-2
 returns-then-not-contains-2 c =
-    let s = c.args.schema.now in
+    let s = c.args.theory.now in
     let others = c.without-others.result in
     record {
       pair = (
@@ -30,7 +30,7 @@ returns-then-not-contains-2 c =
 
 pub returns : goal.returns
 returns c =
-    let s = c.args.schema.now in
+    let s = c.args.theory.now in
     let others = attributes c.without-others.result in
     let rest = attributes c.without.result in
     record {

@@ -4,20 +4,20 @@ use Rattle.std.proofs.lemmas.Bool.{ltb-true}
 use Rattle.attr_sets.specs.declared.set.TheConstants.{MOST_ATTRIBUTES}
 use Rattle.attr_sets.specs.Sets.{attributes}
 use Rattle.attr_sets.proofs.AttributesLemmas.{attributes_below}
-use Rattle.dep_model.specs.Schemas.{width_of, theory_of}
+use Rattle.dep_model.specs.Theories.{width_of, theory_of}
 use Rattle.wide_bcnf.proofs.CoreLemmas.{way_begins, way_goes_on, way_within, way_none_before, count_left}
 use Rattle.wide_bcnf.proofs.splitting.core_of.Goals as goal
 
 pub loop-next-init : goal.loop-next-init
 loop-next-init c =
-    let s = c.args.schema.now in
+    let s = c.args.theory.now in
     way_begins (width_of s) (theory_of s) (attributes c.args.scheme)
     (attributes c.without-rest.result) c.args.pair.first c.args.pair.second c.requires.pair
     c.without-rest.ensures.members
 
 pub first_pair-requires : goal.first_pair-requires
 first_pair-requires c =
-    let s = c.args.schema.now in
+    let s = c.args.theory.now in
     let way = c.loop-next.invariant in
     record {
       scheme = λ k m. c.requires.scheme k
@@ -37,7 +37,7 @@ loop-next-smaller c = count_left c.loop-next.rest c.without-rest-in-Some.result 
 
 pub loop-next-preserved : goal.loop-next-preserved
 loop-next-preserved c =
-    let s = c.args.schema.now in
+    let s = c.args.theory.now in
     way_goes_on (width_of s) (theory_of s) (attributes c.args.scheme) (attributes c.loop-next.rest)
     (attributes c.without-rest-in-Some.result) c.loop-next.last.first c.loop-next.last.second c.in-Some.next.first
     c.in-Some.next.second

@@ -6,14 +6,14 @@ use Rattle.attr_sets.specs.declared.set.AttrSet.{AttrSet}
 use Rattle.dep_model.specs.Forms.{IsBcnf}
 use Rattle.dep_model.specs.Plans.{schemes_of}
 use Rattle.dep_model.specs.Projections.{IsLossless}
-use Rattle.dep_model.specs.Schemas.{width_of, theory_of}
+use Rattle.dep_model.specs.Theories.{width_of, theory_of}
 use Rattle.plans.specs.Containing.{without_contained}
 use Rattle.wide_bcnf.proofs.SplitLemmas.{split_is_lossless, length-without_contained, kept_all, schema_plan, schema_within_limit, schema_bcnf}
 use Rattle.wide_bcnf.proofs.splitting.split_wide.Goals as goal
 
 pub new-requires : goal.new-requires
 new-requires c = record {
-  plan = schema_plan c.args.schema.now c.in_ok-schemes.schemes.items
+  plan = schema_plan c.args.theory.now c.in_ok-schemes.schemes.items
       c.in_ok-schemes.ensures.split;
 }
 
@@ -26,7 +26,7 @@ returns-clause-split c = record {
 
 pub returns-clause-lossless : goal.returns-clause-lossless
 returns-clause-lossless c =
-    let s = c.args.schema.now in
+    let s = c.args.theory.now in
     c.drop_contained.ensures.lossless (theory_of s)
     (subst (λ (xs : List AttrSet). IsLossless (width_of s) (theory_of s) (schemes_of xs)) (sym c.new.ensures.schemes)
     (split_is_lossless (width_of s) (theory_of s)
@@ -34,7 +34,7 @@ returns-clause-lossless c =
 
 pub returns-clause-bcnf : goal.returns-clause-bcnf
 returns-clause-bcnf c =
-    let s = c.args.schema.now in
+    let s = c.args.theory.now in
     let all = c.in_ok-schemes.schemes.items in
     let kept = c.drop_contained.result.schemes.items in
     kept_all (IsBcnf (width_of s) (theory_of s)) all kept
@@ -47,7 +47,7 @@ returns-clause-at_most_width c =
     let all = c.in_ok-schemes.schemes.items in
     let kept : c.drop_contained.result.schemes.items ≡ without_contained all = c.drop_contained.ensures.schemes
     ∙ ap (λ (xs : List AttrSet). without_contained xs) c.new.ensures.schemes in
-    let within_limit = schema_within_limit c.args.schema.now all c.in_ok-schemes.ensures.split in
+    let within_limit = schema_within_limit c.args.theory.now all c.in_ok-schemes.ensures.split in
     let shorter = length-without_contained all in
     let same = ap (λ (xs : List AttrSet). length xs) kept in
     omega arith

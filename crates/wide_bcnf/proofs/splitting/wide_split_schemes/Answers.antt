@@ -9,7 +9,7 @@ use Rattle.attr_sets.specs.Attributes.{Attributes, only, difference, IsSubset}
 use Rattle.attr_sets.specs.Sets.{attributes}
 use Rattle.attr_sets.proofs.AttributesLemmas.{attributes_below, same_at}
 use Rattle.dep_model.specs.Plans.{schemes_of}
-use Rattle.dep_model.specs.Schemas.{width_of, theory_of, universe_of}
+use Rattle.dep_model.specs.Theories.{width_of, theory_of, universe_of}
 use Rattle.wide_bcnf.specs.WideSplits.{IsWideSplitOf}
 use Rattle.wide_bcnf.proofs.PairLemmas.{none_before_first, none_before_part}
 use Rattle.wide_bcnf.proofs.CoreLemmas.{scheme_member, count_left}
@@ -17,14 +17,14 @@ use Rattle.wide_bcnf.proofs.splitting.wide_split_schemes.Goals as goal
 
 pub without-rest-requires : goal.without-rest-requires
 without-rest-requires c =
-    let s = c.args.schema.now in
+    let s = c.args.theory.now in
     ltb-true c.core_of-core.result.attribute MOST_ATTRIBUTES (attributes_below c.loop-pair.rest c.core_of-core.result.attribute
     (scheme_member (width_of s) (theory_of s) (attributes c.loop-pair.rest)
     (attributes c.core_of-core.result.scheme) c.core_of-core.result.attribute c.core_of-core.ensures.core))
 
 pub loop-pair-smaller : goal.loop-pair-smaller
 loop-pair-smaller c =
-    let s = c.args.schema.now in
+    let s = c.args.theory.now in
     count_left c.loop-pair.rest c.without-rest.result c.core_of-core.result.attribute
     (scheme_member (width_of s) (theory_of s) (attributes c.loop-pair.rest)
     (attributes c.core_of-core.result.scheme) c.core_of-core.result.attribute c.core_of-core.ensures.core)
@@ -32,7 +32,7 @@ loop-pair-smaller c =
 
 pub loop-pair-preserved : goal.loop-pair-preserved
 loop-pair-preserved c =
-    let s = c.args.schema.now in
+    let s = c.args.theory.now in
     let n = width_of s in
     let theory = theory_of s in
     let rest = attributes c.loop-pair.rest in
@@ -60,7 +60,7 @@ loop-pair-preserved c =
 
 pub returns : goal.returns
 returns c =
-    let s = c.args.schema.now in
+    let s = c.args.theory.now in
     let rest = attributes c.loop-pair.rest in
     let items = c.loop-pair.schemes.items in
     let all : schemes_of c.push-2.new.self.items ≡ schemes_of items ++ rest ∷ [] =

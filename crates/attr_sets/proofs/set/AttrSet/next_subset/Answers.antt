@@ -2,7 +2,6 @@
 -- `AttributesLemmas` and `OrderLemmas`.
 use Rattle.std.proofs.Common.{refl, arith}
 use mathlib.Core.Path.{fun_ext}
-use Rattle.attr_sets.specs.Attributes.{difference}
 use Rattle.attr_sets.specs.Sets.{attributes}
 use Rattle.attr_sets.proofs.AttributesLemmas.{same_from_within, same_at}
 use Rattle.attr_sets.proofs.OrderLemmas.{next_subset-is, lt_from_before}

@@ -1,7 +1,7 @@
 -- What the loop of `Header::new` keeps: `ReadsColumns`.
 use Rattle.attr_sets.specs.Sets.{attributes}
 use Rattle.csv.specs.Records.{fields_of}
-use Rattle.dep_model.specs.Schemas.{names_of}
+use Rattle.schema_model.specs.Schemas.{names_of}
 use Rattle.csv_rows.proofs.HeaderLemmas.{ReadsColumns}
 use Rattle.csv_rows.proofs.header.Header.new.Given as goal
 

@@ -2,10 +2,10 @@
 use Rattle.std.proofs.Common.{◌≡◌, Result, Ok, Err, refl}
 use Rattle.std.specs.Prelude.{IfOk}
 use Rattle.dep_model.specs.declared.dep.Dep.{Dep}
-use Rattle.dep_model.specs.declared.schema.Schema.{Schema}
+use Rattle.schema_model.specs.Schemas.{Schema, theory_in}
 use Rattle.dep_model.specs.Dependencies.{Dependency}
 use Rattle.dep_model.specs.Deps.{dependency_of, IsDepWithin}
-use Rattle.dep_model.specs.Schemas.{universe_of}
+use Rattle.schema_model.specs.Schemas.{universe_of}
 use Rattle.derivation.specs.declared.deriv.Deriv.{Deriv}
 use Rattle.derivation.specs.declared.fault.FaultKind.{FaultKind}
 use Rattle.derivation.specs.Trees.{Tree}
@@ -18,8 +18,8 @@ use Rattle.proof_grammar.proofs.CheckedLemmas.{prepared_is}
 use Rattle.proof_text.proofs.checker_state.CheckerState.enter.Goals as goal
 
 -- what a node concludes lies within the universe
-outcome_within : (s : Schema) (outcome : Result (Deriv × Dep) FaultKind) → ((t : Tree) (d : Dependency) → concluded_outcome outcome ≡ Ok (t, d) → Proves s t d) → IfOk outcome (λ x. IsDepWithin (universe_of s) x.1)
-outcome_within s (Ok x) proves = conclusion_within s (tree_of x.0) (dependency_of x.1) (tree_of-attributes x.0) (proves (tree_of x.0) (dependency_of x.1) refl)
+outcome_within : (s : Schema) (outcome : Result (Deriv × Dep) FaultKind) → ((t : Tree) (d : Dependency) → concluded_outcome outcome ≡ Ok (t, d) → Proves (theory_in s) t d) → IfOk outcome (λ x. IsDepWithin (universe_of s) x.1)
+outcome_within s (Ok x) proves = conclusion_within (theory_in s) (tree_of x.0) (dependency_of x.1) (tree_of-attributes x.0) (proves (tree_of x.0) (dependency_of x.1) refl)
 outcome_within s (Err why) proves = tt {0}
 
 pub returns-in-Err-clause-within : goal.returns-in-Err-clause-within

@@ -1,2 +1,0 @@
--- The definitions of alike_laws: when two schemas declare the same.
-pub mod SameDeclarations

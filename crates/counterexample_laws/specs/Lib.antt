@@ -1,0 +1,2 @@
+-- The definitions of counterexample_laws: what rows show.
+pub mod Counterexamples
