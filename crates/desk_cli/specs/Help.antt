@@ -19,7 +19,7 @@ help_text =
     ++ line (codes "desk check key SCHEMA SET             whether the set of attributes is a key, and why")
     ++ line (codes "desk check join SCHEMA PLAN           whether the plan in PLAN loses nothing")
     ++ line (codes "desk check form FORM SCHEMA PLAN      "
-    ++ codes "whether each scheme of the plan is in the form: 3nf, bcnf or 4nf")
+    ++ codes "whether each scheme of the plan is in the form: 2nf, 3nf, bcnf or 4nf")
     ++ line (codes "desk check keeps SCHEMA PLAN          whether the plan keeps the functional dependencies")
     ++ line (codes "desk check same SCHEMA OTHER          "
     ++ codes "whether two schemas over the same names say the same")
@@ -32,13 +32,18 @@ help_text =
     ++ line (codes "desk project SCHEMA SET               the functional dependencies inside the set, as a schema")
     ++ line (codes "desk keys SCHEMA                      all keys")
     ++ line (codes "desk keys SCHEMA PLAN                 all keys of each scheme of the plan")
+    ++ line (codes "desk form SCHEMA                      "
+    ++ codes "the normal form of the table of all attributes, and what violates the others")
+    ++ line (codes "desk form SCHEMA PLAN                 the same of each scheme of the plan")
     ++ line (codes "desk synthesize SCHEMA                a plan in third normal form")
+    ++ line (codes "desk synthesize fewest SCHEMA         "
+    ++ codes "the same, with one table for left sides that determine each other")
     ++ line (codes "desk split bcnf SCHEMA                a plan in Boyce-Codd normal form")
     ++ line (codes "desk split 4nf SCHEMA                 a plan in fourth normal form")
     ++ line (codes "desk split wide-bcnf SCHEMA           a plan in Boyce-Codd normal form, at any width")
     ++ line (codes "desk exhibit SCHEMA                   rows that obey just what follows from the schema")
     ++ line (codes "desk explain COMMAND                  "
-    ++ codes "reasons above what COMMAND prints: cover, keys, synthesize, split bcnf or split 4nf")
+    ++ codes "reasons above what COMMAND prints: cover, keys, synthesize, synthesize fewest, split bcnf or split 4nf")
     ++ line (codes "desk measure SCHEMA CSV               how far the rows in CSV are from legal")
     ++ line (codes "desk offences SCHEMA CSV              which rows are at odds, as CSV, a line for each class")
     ++ line (codes "desk offences rows SCHEMA CSV         the same row by row")
@@ -66,6 +71,8 @@ help_text =
     ++ line (codes "desk rejoin SCHEMA CSV..              the join of the tables in files")
     ++ line (codes "desk sql check SCHEMA TABLE           "
     ++ codes "queries for the rows of TABLE in a database that break each rule")
+    ++ line (codes "desk sql measure SCHEMA TABLE         "
+    ++ codes "queries for how far they are from legal, as measure counts it")
     ++ line (codes "desk sql migrate FORM SCHEMA TABLE    "
     ++ codes "statements that make the tables in the form from TABLE")
     ++ line (codes "desk sql migrate plan SCHEMA PLAN TABLE  the same of the plan")
