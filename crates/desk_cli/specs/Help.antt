@@ -33,17 +33,18 @@ help_text =
     ++ line (codes "desk keys SCHEMA                      all keys")
     ++ line (codes "desk keys SCHEMA PLAN                 all keys of each scheme of the plan")
     ++ line (codes "desk form SCHEMA                      "
-    ++ codes "the normal form of the table of all attributes, and what violates the others")
+    ++ codes "the normal form of the table of all attributes, and what violates those above it")
     ++ line (codes "desk form SCHEMA PLAN                 the same of each scheme of the plan")
     ++ line (codes "desk synthesize SCHEMA                a plan in third normal form")
     ++ line (codes "desk synthesize fewest SCHEMA         "
-    ++ codes "the same, with one table for left sides that determine each other")
+    ++ codes "the same with fewest tables: left sides that determine each other share one")
     ++ line (codes "desk split bcnf SCHEMA                a plan in Boyce-Codd normal form")
     ++ line (codes "desk split 4nf SCHEMA                 a plan in fourth normal form")
     ++ line (codes "desk split wide-bcnf SCHEMA           a plan in Boyce-Codd normal form, at any width")
     ++ line (codes "desk exhibit SCHEMA                   rows that obey just what follows from the schema")
     ++ line (codes "desk explain COMMAND                  "
-    ++ codes "reasons above what COMMAND prints: cover, keys, synthesize, synthesize fewest, split bcnf or split 4nf")
+    ++ codes "reasons above what COMMAND prints: cover, keys, synthesize, synthesize fewest, "
+    ++ codes "split bcnf or split 4nf")
     ++ line (codes "desk measure SCHEMA CSV               how far the rows in CSV are from legal")
     ++ line (codes "desk offences SCHEMA CSV              which rows are at odds, as CSV, a line for each class")
     ++ line (codes "desk offences rows SCHEMA CSV         the same row by row")
@@ -72,7 +73,7 @@ help_text =
     ++ line (codes "desk sql check SCHEMA TABLE           "
     ++ codes "queries for the rows of TABLE in a database that break each rule")
     ++ line (codes "desk sql measure SCHEMA TABLE         "
-    ++ codes "queries for how far they are from legal, as measure counts it")
+    ++ codes "queries that count there what breaks each rule, as measure counts it")
     ++ line (codes "desk sql migrate FORM SCHEMA TABLE    "
     ++ codes "statements that make the tables in the form from TABLE")
     ++ line (codes "desk sql migrate plan SCHEMA PLAN TABLE  the same of the plan")

@@ -27,10 +27,10 @@ desk closure SCHEMA SET               how the closure of the set comes about, st
 desk project SCHEMA SET               the functional dependencies inside the set, as a schema
 desk keys SCHEMA                      all keys
 desk keys SCHEMA PLAN                 all keys of each scheme of the plan
-desk form SCHEMA                      the normal form of the table of all attributes, and what violates the others
+desk form SCHEMA                      the normal form of the table of all attributes, and what violates those above it
 desk form SCHEMA PLAN                 the same of each scheme of the plan
 desk synthesize SCHEMA                a plan in third normal form
-desk synthesize fewest SCHEMA         the same, with one table for left sides that determine each other
+desk synthesize fewest SCHEMA         the same with fewest tables: left sides that determine each other share one
 desk split bcnf SCHEMA                a plan in Boyce-Codd normal form
 desk split 4nf SCHEMA                 a plan in fourth normal form
 desk split wide-bcnf SCHEMA           a plan in Boyce-Codd normal form, at any width
@@ -56,7 +56,7 @@ desk import sqlite FILE TABLE         a schema of TABLE, by what sqlite3 prints 
 desk import postgres FILE TABLE       the same by what pg_dump prints
 desk rejoin SCHEMA CSV..              the join of the tables in files
 desk sql check SCHEMA TABLE           queries for the rows of TABLE in a database that break each rule
-desk sql measure SCHEMA TABLE         queries for how far they are from legal, as measure counts it
+desk sql measure SCHEMA TABLE         queries that count there what breaks each rule, as measure counts it
 desk sql migrate FORM SCHEMA TABLE    statements that make the tables in the form from TABLE
 desk sql migrate plan SCHEMA PLAN TABLE  the same of the plan
 desk draw FORM SCHEMA                 a picture of the tables in the form, for Graphviz
