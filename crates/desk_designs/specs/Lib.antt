@@ -2,6 +2,7 @@
 pub mod Synthesis
 pub mod Decompositions
 pub mod NormalForms
+pub mod FormsOfSchemes
 pub mod Joins
 pub mod Keeping
 pub mod Designs
