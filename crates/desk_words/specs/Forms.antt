@@ -5,8 +5,8 @@ use Rattle.std.specs.Option.{option_and_then}
 use Rattle.std.specs.Str.{bytes_eq}
 use Rattle.dep_model.specs.declared.form.Form.{Form as NormalForm}
 use Rattle.dep_model.specs.declared.form.Form.TheVariants.{Third, Bcnf, Fourth}
-use Rattle.which_form.specs.declared.tested.TestedForm.{TestedForm}
-use Rattle.which_form.specs.declared.tested.TestedForm.TheVariants.{Second, Higher}
+use Rattle.which_form.specs.declared.forms.TestedForm.{TestedForm}
+use Rattle.which_form.specs.declared.forms.TestedForm.TheVariants.{Second, Higher}
 use Rattle.sql_lexemes.specs.declared.dialect.Dialect.{Dialect}
 use Rattle.sql_lexemes.specs.declared.dialect.Dialect.TheVariants.{Sqlite, Postgres}
 use Rattle.lexer.specs.Bytes.{number_of}

@@ -3,6 +3,7 @@ pub mod FormPlans
 pub mod PlanLengths
 mod DesignedLaws
 mod RejoinedLaws
+mod TestedForms
 pub mod UniqueLaws
 pub mod FormTables
 pub mod NameLaws
@@ -18,3 +19,4 @@ pub mod PlacedAnswers
 pub mod FolderAnswers
 pub mod SampleAnswers
 pub mod ReasonAnswers
+pub mod FormAnswers

@@ -21,12 +21,11 @@ use Rattle.schema_model.specs.Schemas.{Schema}
 use Rattle.dep_model.proofs.ListLemmas.{Contains-head}
 use Rattle.dep_model.specs.declared.form.Form.{Form}
 use Rattle.dep_model.specs.declared.form.Form.TheVariants.{Third}
+use Rattle.which_form.specs.declared.forms.TestedForm.{TestedForm}
 use Rattle.primary_keys.proofs.PrimaryLemmas.{one_primary}
 use Rattle.plans.specs.Containing.{is_contained, without_contained_after, without_contained}
 use Rattle.preservation.specs.Keeping.{IsPreserved, IsLostOn, LossesFrom}
 use Rattle.preservation.specs.declared.losing.Loss.{Loss}
-use Rattle.normal_forms.proofs.ViolationLemmas.{not_in_form}
-use Rattle.normal_forms.proofs.UniqueLemmas.{one_chosen}
 use Rattle.schema_printer.specs.Spelling.{printed_names_of}
 use Rattle.synthesis_3nf.specs.Groups.{schemes_of_groups}
 use Rattle.synthesis_3nf.specs.GroupedPlans.{AreSynthesisSteps, IsWithKey, IsGroupedPlan}
@@ -44,6 +43,7 @@ use Rattle.desk_texts.specs.Texts.{line}
 use Rattle.desk_designs.specs.NormalForms.{JudgesForm, EndsForm, PassesForm, violated_text}
 use Rattle.desk_designs.specs.Keeping.{JudgesKeeping, loss_text, two_tuples_text}
 use Rattle.typed_rows.specs.Shown.{shown_tuples}
+use Rattle.plan_laws.proofs.TestedForms.{not_in_tested, one_named}
 
 -- ---- what is kept of a list rests on its sets alone
 any_map : {X Y : Type 0} (f : X → Y) (p : Y → Bool) (xs : List X) → list_any (λ x. p (f x)) xs ≡ list_any p (map f xs)
@@ -239,20 +239,20 @@ one_keeping s plan one other (inr (lost, found)) (inr (lost', found')) =
     ∙ sym found'.4
 
 -- ---- `check form`
-ends_fails : (s : Schema) (form : Form) (scheme : Attributes) (response : ResponseValue)
+ends_fails : (s : Schema) (form : TestedForm) (scheme : Attributes) (response : ResponseValue)
     → IsSubset scheme (below (width_of s)) → EndsForm s form scheme response → PassesForm s form scheme → ⊥
 ends_fails s form scheme response low (inl (wide, says)) passes = passes.narrow wide
 ends_fails s form scheme response low (inr (narrow, found)) passes =
-    not_in_form (width_of s) (theory_of s) form scheme found.0 found.1 low found.2.violates passes.in_form
+    not_in_tested (width_of s) (theory_of s) form scheme found.0 found.1 low found.2 passes.in_form
 
-one_end : (s : Schema) (form : Form) (scheme : Attributes) (one other : ResponseValue)
+one_end : (s : Schema) (form : TestedForm) (scheme : Attributes) (one other : ResponseValue)
     → IsSubset scheme (below (width_of s)) → EndsForm s form scheme one → EndsForm s form scheme other → one ≡ other
 one_end s form scheme one other low (inl (wide, says)) (inl (wide', says')) = says ∙ sym says'
 one_end s form scheme one other low (inl (wide, says)) (inr (narrow, found)) = absurd (narrow wide)
 one_end s form scheme one other low (inr (narrow, found)) (inl (wide, says)) = absurd (narrow wide)
 one_end s form scheme one other low (inr (narrow, found)) (inr (narrow', found')) =
     let same =
-    one_chosen (width_of s) (theory_of s) form scheme found.0 found.1 found'.0 found'.1 low found.2 found'.2 in
+    one_named (width_of s) (theory_of s) form scheme found.0 found.1 found'.0 found'.1 low found.2 found'.2 in
     found.3
     ∙ ap (λ (x : Attributes). text_only No (violated_text (printed_names_of s) form scheme x found.1)) same.0
     ∙ ap (λ (y : Attributes). text_only No (violated_text (printed_names_of s) form scheme found'.0 y)) same.1
@@ -265,7 +265,7 @@ first_low n P plan scheme low first =
     (subst (λ (l : List Attributes). Contains l scheme) (sym first.list)
     (Contains-append_right first.earlier (scheme ∷ first.later) scheme (Contains-head scheme first.later)))
 
-passed_fails : (s : Schema) (form : Form) (plan : List Attributes) (scheme : Attributes) (response : ResponseValue)
+passed_fails : (s : Schema) (form : TestedForm) (plan : List Attributes) (scheme : Attributes) (response : ResponseValue)
     → All (λ x. IsSubset x (below (width_of s))) plan → All (PassesForm s form) plan
     → IsFirstFailing (PassesForm s form) plan scheme → EndsForm s form scheme response → ⊥
 passed_fails s form plan scheme response low passed first ends =
@@ -274,7 +274,7 @@ passed_fails s form plan scheme response low passed first ends =
     (subst (λ (l : List Attributes). Contains l scheme) (sym first.list)
     (Contains-append_right first.earlier (scheme ∷ first.later) scheme (Contains-head scheme first.later))))
 
-pub one_form : (s : Schema) (form : Form) (plan : List Attributes) (one other : ResponseValue)
+pub one_form : (s : Schema) (form : TestedForm) (plan : List Attributes) (one other : ResponseValue)
     → IsPlan (width_of s) plan
     → JudgesForm s form plan one → JudgesForm s form plan other → one ≡ other
 one_form s form plan one other valid (inl (passed, says)) (inl (passed', says')) = says ∙ sym says'

@@ -2,8 +2,9 @@
 
 ghost use Rattle.std.specs.Prelude.{◌≤◌, ℕ, List};
 ghost use Rattle.attr_sets.specs.Attributes.{Attributes};
+ghost use Rattle.dep_model.specs.Plans.{IsPlan};
 ghost use Rattle.dep_model.specs.Tuples.{Relation};
-ghost use Rattle.schema_model.specs.Schemas.{Schema};
+ghost use Rattle.schema_model.specs.Schemas.{Schema, width_of};
 ghost use Rattle.dep_model.specs.declared.form.Form.{Form};
 ghost use Rattle.sample_rows.specs.declared.rows.TheConstants.{MOST_PERSONS};
 ghost use Rattle.table_join.specs.Tables.{PartialRelation};
@@ -12,6 +13,7 @@ ghost use Rattle.implication_laws.specs.OneAnswer.{AllowsOne};
 ghost use Rattle.desk_designs.specs.Decompositions.{Splits, SplitsWide};
 ghost use Rattle.desk_designs.specs.Designs.{WritesForm, WritesPlan};
 ghost use Rattle.desk_designs.specs.Drawings.{DrawsForm, DrawsSchemes};
+ghost use Rattle.desk_designs.specs.FormsOfSchemes.{ListsFormOfAll, ListsFormsOfPlan};
 ghost use Rattle.desk_scripts.specs.Scripts.{ScriptsCheck, ScriptsMigration, ScriptsMigrationByPlan};
 ghost use Rattle.desk_designs.specs.SplitReasons.{ExplainsSplit};
 ghost use Rattle.desk_designs.specs.SynthesisReasons.{ExplainsSynthesis};
@@ -25,6 +27,13 @@ ghost use Rattle.desk_tables.specs.Rejoining.{JoinsTables};
 pub fn one_answer_of_split()
     ensures form { (schema : Schema) (form : Form) → AllowsOne (Splits schema form) }
     ensures wide { (schema : Schema) → AllowsOne (SplitsWide schema) }
+{}
+
+/// `form` has one answer to a schema, and to a schema and a plan.
+pub fn one_answer_of_form()
+    ensures all { (schema : Schema) → AllowsOne (ListsFormOfAll schema) }
+    ensures plan { (schema : Schema) (plan : List Attributes) → IsPlan (width_of schema) plan
+        → AllowsOne (ListsFormsOfPlan schema plan) }
 {}
 
 /// `explain synthesize` and `explain split` have one answer to a schema, and to a schema and a form.

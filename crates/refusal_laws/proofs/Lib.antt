@@ -4,5 +4,6 @@ mod TableTexts
 mod FileRefusals
 mod QuestionRefusals
 mod PlanRefusals
+mod FormRefusals
 mod RowRefusals
 mod WordRefusals

@@ -9,6 +9,7 @@ use Rattle.dep_model.specs.Plans.{schemes_of}
 use Rattle.dep_model.specs.Tuples.{Relation}
 use Rattle.dep_model.specs.declared.form.Form.{Form}
 use Rattle.dep_model.specs.declared.form.Form.TheVariants.{Third, Bcnf, Fourth}
+use Rattle.which_form.specs.declared.forms.TestedForm.{TestedForm}
 use Rattle.dep_model.proofs.ListLemmas.{Contains-head, Contains-later}
 use Rattle.schema_model.specs.Names.{IsName, is_bare_name}
 use Rattle.schema_model.specs.Schemas.{LegalFor, Schema, names_of, naming_of}
@@ -101,11 +102,11 @@ module _ (names : List (List ℕ)) (s : Schema) (are_names : All IsName (names_o
   pub join_refuses : (plan : List Attributes) → RefusesSo names (JudgesJoin s plan)
   join_refuses plan = after_loss plan (Says Yes lossless_text) (says_yes names lossless_text)
 
-  form_ends : (form : Form) (scheme : Attributes) → RefusesSo names (EndsForm s form scheme)
+  form_ends : (form : TestedForm) (scheme : Attributes) → RefusesSo names (EndsForm s form scheme)
   form_ends form scheme response (inl (wide, said)) refused = too_wide names s are_names scheme response said refused
   form_ends form scheme response (inr (narrow, (x, y, chosen, said))) refused = says_no names _ response said refused
 
-  pub form_refuses : (form : Form) (plan : List Attributes) → RefusesSo names (JudgesForm s form plan)
+  pub form_refuses : (form : TestedForm) (plan : List Attributes) → RefusesSo names (JudgesForm s form plan)
   form_refuses form plan response (inl (passes, said)) refused = says_yes names _ response said refused
   form_refuses form plan response (inr (scheme, first, ends)) refused = form_ends form scheme response ends refused
 
