@@ -2,6 +2,7 @@ pub mod AcceptedLaws
 pub mod StopLemmas
 pub mod CompleteLaws
 pub mod TableLaws
+mod FormLaws
 mod OneText
 mod OneFile
 mod ImportLaws

@@ -21,7 +21,7 @@ use Rattle.desk_responses.specs.ResponseValues.{ResponseValue, Allowed, With}
 use Rattle.dep_model.specs.declared.form.Form.{Form}
 use Rattle.dep_model.specs.declared.form.Form.TheVariants.{Bcnf, Fourth}
 use Rattle.desk_responses.specs.declared.status.Status.{Status}
-use Rattle.desk_words.specs.Forms.{form_of, form_over_schema, after_explain, after_explain_split, schema_alone}
+use Rattle.desk_words.specs.Forms.{form_of, form_over_schema, after_explain, after_explain_split, after_explain_synthesize, schema_alone}
 use Rattle.desk_laws.specs.Completeness.{IsYesOrNo, IsAnswered, HasPlanInForm}
 use Rattle.desk_laws.proofs.CompleteLaws.{after_schema, lists_keys}
 use Rattle.desk_laws.proofs.TableLaws.{after_form}
@@ -65,7 +65,7 @@ keys_explained files name schema file narrow within_limit looks response answere
 synthesis_asks : (files : Files) (name : List ℕ) (looks : Looks) (response : ResponseValue)
     → Answers looks (known_files files) (codes "explain" ∷ codes "synthesize" ∷ name ∷ []) response
     → WithFile schema_file (known_files files) name ExplainsSynthesis response
-unfolding form_of form_over_schema after_explain schema_alone Performs Does AnswersSchema
+unfolding form_of form_over_schema after_explain after_explain_synthesize Performs Does AnswersSchema
 synthesis_asks files name looks response answered = answered
 
 pub synthesis_explained : (files : Files) (name : List ℕ) (schema : Schema)

@@ -46,15 +46,18 @@ pub use complete_questions::{
     closure_is_answered, keys_of_plan_is_answered, project_is_answered,
 };
 pub use complete_reasons::{
-    explain_cover_is_answered, explain_keys_is_answered, explain_split_is_answered,
-    explain_synthesize_is_answered,
+    explain_cover_is_answered, explain_fewest_is_answered, explain_keys_is_answered,
+    explain_split_is_answered, explain_synthesize_is_answered,
 };
-pub use complete_scripts::{draw_is_answered, sql_check_is_answered, sql_migrate_is_answered};
+pub use complete_scripts::{
+    draw_is_answered, sql_check_is_answered, sql_measure_is_answered, sql_migrate_is_answered,
+};
 pub use complete_tables::{
     check_form_is_answered, check_keeps_is_answered, ddl_is_answered, discover_all_is_answered,
-    discover_is_answered, discover_near_is_answered, exhibit_is_answered, import_csv_is_answered,
-    import_sql_is_answered, migrate_is_answered, rejoin_is_answered, sample_is_answered,
-    small_universes_are_split, split_is_answered,
+    discover_is_answered, discover_near_is_answered, exhibit_is_answered, form_is_answered,
+    import_csv_is_answered, import_sql_is_answered, migrate_is_answered, rejoin_is_answered,
+    sample_is_answered, small_universes_are_split, split_is_answered,
+    synthesize_fewest_is_answered,
 };
 pub use imported::{tables_of_a_form_are_imported, tables_of_a_plan_are_imported};
 pub use one_answer::{

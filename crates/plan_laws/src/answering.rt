@@ -14,7 +14,7 @@ ghost use Rattle.desk_designs.specs.Decompositions.{Splits, SplitsWide};
 ghost use Rattle.desk_designs.specs.Designs.{WritesForm, WritesPlan};
 ghost use Rattle.desk_designs.specs.Drawings.{DrawsForm, DrawsSchemes};
 ghost use Rattle.desk_designs.specs.FormsOfSchemes.{ListsFormOfAll, ListsFormsOfPlan};
-ghost use Rattle.desk_scripts.specs.Scripts.{ScriptsCheck, ScriptsMigration, ScriptsMigrationByPlan};
+ghost use Rattle.desk_scripts.specs.Scripts.{ScriptsCheck, ScriptsMeasure, ScriptsMigration, ScriptsMigrationByPlan};
 ghost use Rattle.desk_designs.specs.SplitReasons.{ExplainsSplit};
 ghost use Rattle.desk_designs.specs.SynthesisReasons.{ExplainsSynthesis};
 ghost use Rattle.desk_tables.specs.Legality.{JudgesRows};
@@ -59,6 +59,11 @@ pub fn one_answer_of_draw()
 /// `sql check` has one answer to a schema and a name.
 pub fn one_answer_of_sql_check()
     ensures law { (schema : Schema) (name : List ℕ) → AllowsOne (ScriptsCheck schema name) }
+{}
+
+/// `sql measure` has one answer to a schema and a name.
+pub fn one_answer_of_sql_measure()
+    ensures law { (schema : Schema) (name : List ℕ) → AllowsOne (ScriptsMeasure schema name) }
 {}
 
 /// `sql migrate` has one answer to a schema, a form or a plan, and a name.

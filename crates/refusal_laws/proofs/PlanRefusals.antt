@@ -35,7 +35,7 @@ use Rattle.desk_designs.specs.NormalForms.{EndsForm, JudgesForm}
 use Rattle.desk_designs.specs.SplitReasons.{AreSplitReasons, ExplainsCuts, ExplainsSplit}
 use Rattle.desk_designs.specs.Synthesis.{Synthesizes}
 use Rattle.desk_designs.specs.SynthesisReasons.{AreSynthesisReasons, ExplainsSynthesis}
-use Rattle.desk_scripts.specs.Scripts.{AsksTable, MakesDesign, MakesSchemes, MakesTables, MetNameStops, ScriptsCheck, ScriptsMigration, ScriptsMigrationByPlan, TableNameStops, WithOtherName, WithTableName}
+use Rattle.desk_scripts.specs.Scripts.{AsksTable, MakesDesign, MakesSchemes, MakesTables, MeasuresTable, MetNameStops, ScriptsCheck, ScriptsMeasure, ScriptsMigration, ScriptsMigrationByPlan, TableNameStops, WithOtherName, WithTableName}
 use Rattle.desk_tables.specs.Legality.{JudgesRows, OffenceStops, WithLegal, legal_text}
 use Rattle.desk_tables.specs.Migrations.{GivesTables, MigratesPlan, MigratesRows, Samples}
 use Rattle.desk_tables.specs.Overwriting.{IsTableFile, KeepsFiles, MigratesHere, MigratesPlanHere, OverStops, written_over_text}
@@ -201,6 +201,12 @@ module _ (names : List (List ℕ)) (s : Schema) (are_names : All IsName (names_o
 
   pub check_scripted : (table : List ℕ) → RefusesSo names (ScriptsCheck s table)
   check_scripted table = after_name table (AsksTable s table) (table_asked table)
+
+  table_measured : (table : List ℕ) → RefusesSo names (MeasuresTable s table)
+  table_measured table response (counts, said) refused = says_yes names _ response said refused
+
+  pub measure_scripted : (table : List ℕ) → RefusesSo names (ScriptsMeasure s table)
+  measure_scripted table = after_name table (MeasuresTable s table) (table_measured table)
 
   design_made : (table : List ℕ) (tables : List TableDesign) → RefusesSo names (MakesDesign s table tables)
   design_made table tables response (sound, said) refused = says_yes names _ response said refused
