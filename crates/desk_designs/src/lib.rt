@@ -9,6 +9,8 @@
 mod decomposition;
 mod designs;
 mod drawings;
+mod fewest;
+mod fewest_reasons;
 mod form;
 mod join;
 mod keeping;
@@ -23,6 +25,8 @@ pub use decomposition::{
 };
 pub use designs::{design_of_plan, write_form, write_plan};
 pub use drawings::{draw_form, draw_plan};
+pub use fewest::synthesize_fewest;
+pub use fewest_reasons::explain_fewest;
 pub use form::{check_form, violation_dependency, word_of};
 pub use join::{check_join, test_loss};
 pub use keeping::check_keeps;
