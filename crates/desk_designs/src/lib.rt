@@ -9,6 +9,8 @@
 mod decomposition;
 mod designs;
 mod drawings;
+mod fewest;
+mod fewest_reasons;
 mod form;
 mod forms;
 mod join;
@@ -24,6 +26,8 @@ pub use decomposition::{
 };
 pub use designs::{design_of_plan, write_form, write_plan};
 pub use drawings::{draw_form, draw_plan};
+pub use fewest::synthesize_fewest;
+pub use fewest_reasons::explain_fewest;
 pub use form::{
     check_form, tested_dependency, violation_dependency, word_of, word_of_tested,
 };
