@@ -20,3 +20,5 @@ pub mod FolderAnswers
 pub mod SampleAnswers
 pub mod ReasonAnswers
 pub mod FormAnswers
+mod OneGrouping
+pub mod FewestAnswers

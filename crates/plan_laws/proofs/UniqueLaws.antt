@@ -114,7 +114,7 @@ wide_split_same s plan other one two =
     one.split.split two.split.split)
 
 -- ---- the plan of third form
-with_key_same : (n : ℕ) (ds : List Dependency) (nullable : Attributes) (schemes one other : List Attributes)
+pub with_key_same : (n : ℕ) (ds : List Dependency) (nullable : Attributes) (schemes one other : List Attributes)
     → IsWithKey n ds nullable schemes one → IsWithKey n ds nullable schemes other → one ≡ other
 with_key_same n ds nullable schemes one other (inl (held, first)) (inl (also, second)) = first ∙ sym second
 with_key_same n ds nullable schemes one other (inl (held, first)) (inr second) = absurd (second.none held)

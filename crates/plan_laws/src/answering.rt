@@ -13,6 +13,8 @@ ghost use Rattle.implication_laws.specs.OneAnswer.{AllowsOne};
 ghost use Rattle.desk_designs.specs.Decompositions.{Splits, SplitsWide};
 ghost use Rattle.desk_designs.specs.Designs.{WritesForm, WritesPlan};
 ghost use Rattle.desk_designs.specs.Drawings.{DrawsForm, DrawsSchemes};
+ghost use Rattle.desk_designs.specs.FewestReasons.{ExplainsFewest};
+ghost use Rattle.desk_designs.specs.FewestTables.{SynthesizesFewest};
 ghost use Rattle.desk_designs.specs.FormsOfSchemes.{ListsFormOfAll, ListsFormsOfPlan};
 ghost use Rattle.desk_scripts.specs.Scripts.{ScriptsCheck, ScriptsMeasure, ScriptsMigration, ScriptsMigrationByPlan};
 ghost use Rattle.desk_designs.specs.SplitReasons.{ExplainsSplit};
@@ -36,9 +38,16 @@ pub fn one_answer_of_form()
         → AllowsOne (ListsFormsOfPlan schema plan) }
 {}
 
-/// `explain synthesize` and `explain split` have one answer to a schema, and to a schema and a form.
+/// `synthesize fewest` has one answer to a schema.
+pub fn one_answer_of_synthesize_fewest()
+    ensures law { (schema : Schema) → AllowsOne (SynthesizesFewest schema) }
+{}
+
+/// `explain synthesize`, `explain synthesize fewest` and `explain split` have one answer to a schema, and to
+/// a schema and a form.
 pub fn one_answer_of_plan_reasons()
     ensures synthesis { (schema : Schema) → AllowsOne (ExplainsSynthesis schema) }
+    ensures fewest { (schema : Schema) → AllowsOne (ExplainsFewest schema) }
     ensures split { (schema : Schema) (form : Form) → AllowsOne (ExplainsSplit schema form) }
 {}
 

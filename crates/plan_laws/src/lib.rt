@@ -20,6 +20,7 @@ pub use answering::{
     one_answer_of_migrate, one_answer_of_migrate_here, one_answer_of_migrate_into,
     one_answer_of_plan_reasons, one_answer_of_rejoin, one_answer_of_sample, one_answer_of_split,
     one_answer_of_sql_check, one_answer_of_sql_measure, one_answer_of_sql_migrate,
+    one_answer_of_synthesize_fewest,
 };
 pub use designed::{
     given_names_stay_apart, migrated_tables_are_designed, migrated_tables_have_different_names,
