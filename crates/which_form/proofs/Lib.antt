@@ -1,0 +1,5 @@
+mod RangeLemmas
+mod FoundLemmas
+mod BetweenLemmas
+mod NamedLemmas
+pub mod SecondLemmas
