@@ -2,4 +2,5 @@ mod RangeLemmas
 mod FoundLemmas
 mod BetweenLemmas
 mod NamedLemmas
+mod VerdictLemmas
 pub mod SecondLemmas

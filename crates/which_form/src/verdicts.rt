@@ -2,6 +2,7 @@ ghost use Rattle.std.specs.Prelude.{◌≡◌, ◌↔◌, ℕ, List, Some, IsErr
 ghost use Rattle.attr_sets.specs.Attributes.{Attributes, IsSubset};
 ghost use Rattle.attr_sets.specs.Sets.{attributes};
 ghost use Rattle.dep_model.specs.Dependencies.{Dependency};
+ghost use Rattle.dep_model.specs.Forms.{IsBcnf};
 ghost use Rattle.dep_model.specs.Theories.{width_of, universe_of, theory_of};
 ghost use Rattle.dep_model.specs.declared.form.Form.TheVariants as normal;
 ghost use Rattle.fd_closure.specs.LeftSides.{IsWideScheme};
@@ -72,7 +73,24 @@ fn third_below(
         (IsVerdict (width_of theory.now) (theory_of theory.now) (attributes scheme)
         (tested.Higher normal.Third)) }
 {
-    if bcnf.is_none() && is_functional(theory.deps()) {
+    match bcnf {
+        Some(_) => violation(theory, scheme, Form::Third),
+        None => third_in_bcnf(theory, scheme),
+    }
+}
+
+// The violation of third form on a scheme in Boyce-Codd form, of which there is none without multivalued
+// dependencies.
+fn third_in_bcnf(theory: &Theory, scheme: AttrSet) -> Result<Option<Breach>, TooWide>
+    requires scheme { IsSubset (attributes scheme) (universe_of theory.now) }
+    requires bcnf { IsBcnf (width_of theory.now) (theory_of theory.now) (attributes scheme) }
+    ensures too_wide { IsErr result → IsWideScheme (theory_of theory.now) (attributes scheme) }
+    ensures scheme { IfErr result (λ refusal. refusal.scheme ≡ scheme) }
+    ensures verdict { IfOk result
+        (IsVerdict (width_of theory.now) (theory_of theory.now) (attributes scheme)
+        (tested.Higher normal.Third)) }
+{
+    if is_functional(theory.deps()) {
         return Ok(None);
     }
     violation(theory, scheme, Form::Third)
