@@ -6,8 +6,10 @@ ghost use Rattle.fd_closure.specs.LeftSides.{IsWideScheme};
 ghost use Rattle.which_form.specs.Tested.{IsInTested, IsNamedViolation};
 
 use crate::forms::TestedForm;
+use crate::second::second_violation;
 use attr_sets::AttrSet;
 use dep_model::Theory;
+use fd_closure::is_wide_scheme;
 use normal_forms::{Breach, TooWide, violation};
 
 /// The violation of a form on a scheme, where the scheme is not in the form: of its subsets, in the order
@@ -15,6 +17,10 @@ use normal_forms::{Breach, TooWide, violation};
 /// attribute that the left side determines and that is in no key; for the others `normal_forms::violation`
 /// says which. A scheme is not tested where more than `fd_closure::WIDEST_SEARCHED` of its attributes stand
 /// in given left sides.
+///
+/// The time is exponential at worst. For second form the keys are searched twice, each search by fewer than
+/// 2 to the power k + 1 pairs of closures, where k attributes of left sides are neither in every key nor
+/// determined by those that are.
 pub fn tested_violation(
     theory: &Theory,
     scheme: AttrSet,
@@ -30,7 +36,12 @@ pub fn tested_violation(
         (attributes breach.lhs) (attributes breach.rhs))) }
 {
     match form {
-        TestedForm::Second => Err(TooWide { scheme }),
+        TestedForm::Second => {
+            if is_wide_scheme(theory.deps(), scheme) {
+                return Err(TooWide { scheme });
+            }
+            Ok(second_violation(theory, scheme))
+        }
         TestedForm::Higher { form: higher } => violation(theory, scheme, higher),
     }
 }
