@@ -15,12 +15,14 @@ use Rattle.schema_model.specs.Schemas.{Schema}
 use Rattle.min_cover.proofs.CoverLemmas.{fixed_is_minimal, thinned_all}
 use Rattle.min_cover.proofs.ListLemmas.{All-flat_map-from, AllZip-to}
 use Rattle.min_cover.proofs.MemberLemmas.{members_are}
-use Rattle.min_cover.specs.Covers.{IsFixedCover}
+use Rattle.min_cover.specs.Covers.{IsFixedCover, IsMinimalCover}
 use Rattle.min_cover.specs.Members.{members_of, IsLeftReducedDependency}
 use Rattle.dep_model.specs.declared.form.Form.{Form}
 use Rattle.dep_model.specs.declared.form.Form.TheVariants.{Third, Bcnf, Fourth}
 use Rattle.split_forms.proofs.WalkLemmas.{reached_plan}
-use Rattle.synthesis_3nf.proofs.CompleteLemmas.{IsSynthesized, whole}
+use Rattle.synthesis_3nf.proofs.CompleteLemmas.{IsSynthesized, cover_groups, whole}
+use Rattle.synthesis_3nf.proofs.ThirdLemmas.{cover_rules}
+use Rattle.synthesis_3nf.specs.Groups.{schemes_of_groups}
 use Rattle.desk_designs.specs.Decompositions.{IsPlanInForm, IsSplitInForm}
 use Rattle.desk_designs.specs.Synthesis.{IsThirdFormPlan}
 use Rattle.plan_laws.proofs.PassingLaws.{plan_all}
@@ -80,11 +82,17 @@ third_is_plan s plan is = record {
     within : All (IsWithin (below n)) (theory_of s)
     within = dependencies_all-from (IsWithin (below n)) (deps_of s) s.valid.deps_within
 
+    minimal : IsMinimalCover n (theory_of s) is.grouped.cover
+    minimal = fixed_is_minimal n (theory_of s) is.grouped.cover within is.grouped.steps.fixed
+
+    low : All (IsWithin (below n)) is.grouped.cover
+    low = cover_within n (theory_of s) is.grouped.cover within is.grouped.steps.fixed
+
     made : IsSynthesized n (theory_of s) is.grouped.cover (schemes_of all)
-    made = whole n (theory_of s) is.grouped.cover s.valid.names_within_limit s.valid.names_not_empty
-        (fixed_is_minimal n (theory_of s) is.grouped.cover within is.grouped.steps.fixed)
-        (cover_within n (theory_of s) is.grouped.cover within is.grouped.steps.fixed) (nullable_of s) (schemes_of all)
-        is.grouped.steps.completed
+    made = whole n (theory_of s) is.grouped.cover s.valid.names_not_empty
+        (cover_rules n (theory_of s) is.grouped.cover minimal low) (schemes_of_groups is.grouped.cover)
+        (cover_groups n (theory_of s) is.grouped.cover s.valid.names_within_limit minimal low) (nullable_of s)
+        (schemes_of all) is.grouped.steps.completed
 
 pub form_is_plan : (s : Schema) (form : Form) (plan : List AttrSet) → IsPlanInForm s form plan
     → IsPlan (width_of s) (schemes_of plan)
