@@ -50,9 +50,13 @@ pub record IsFewestPlan (n : ℕ) (ds : List Dependency) (nullable : Attributes)
   pub is_grouped : IsGroupedPlan n ds nullable grouped
   pub chosen : plan ≡ smaller merged grouped
 
+-- whether two dependencies have the same sides
+abbrev pub has_same_sides : Dependency → Dependency → Bool
+has_same_sides d e = is_same (left_of d) (left_of e) && is_same (right_of d) (right_of e)
+
 -- whether a dependency is one of a list
 abbrev pub is_among : List Dependency → Dependency → Bool
-is_among ds d = list_any (λ e. is_same (left_of e) (left_of d) && is_same (right_of e) (right_of d)) ds
+is_among ds d = list_any (λ e. has_same_sides e d) ds
 
 -- the members of a cover that were left out
 abbrev pub left_out : List Dependency → List Dependency → List Dependency

@@ -1,4 +1,4 @@
-ghost use Rattle.std.specs.Prelude.{◌≡◌, IfOk, All};
+ghost use Rattle.std.specs.Prelude.{◌≡◌, ◌⊎◌, nat_lt, length, IfOk, All};
 ghost use Rattle.attr_sets.specs.Attributes.{Attributes};
 ghost use Rattle.attr_sets.specs.Sets.{attributes};
 ghost use Rattle.dep_model.specs.Forms.{IsThird};
@@ -9,19 +9,20 @@ ghost use Rattle.plans.specs.Containing.{without_contained};
 ghost use Rattle.plans.specs.Plans.{scheme_sets, plan_of, IsPlanOver};
 ghost use Rattle.fewest_tables.specs.FewestSteps.{AreFewestSteps};
 ghost use Rattle.fewest_tables.specs.KeyedDesigns.{AreFewest};
-ghost use Rattle.fewest_tables.specs.MergedPlans.{IsFewestPlan};
+ghost use Rattle.fewest_tables.specs.MergedPlans.{IsFewestPlan, smaller};
 
-use crate::steps::FewestSteps;
+use crate::steps::{FewestSteps, fewest_steps};
 use attr_sets::AttrSet;
 use dep_model::{OutOfMemory, Theory};
-use plans::Plan;
+use plans::{Plan, drop_contained};
 use std::alloc::Global;
+use synthesis_3nf::plan_of_steps;
 
 /// A lossless plan of schemes in third normal form that keeps the functional dependencies of a schema: that of
 /// `merged_plan`, or that of `synthesize` where it has fewer schemes.
 pub fn fewest_plan(alloc: Global, theory: &Theory, nullable: AttrSet) -> Result<Plan, OutOfMemory>
     ensures universe { IfOk result (IsPlanOver theory.now) }
-    ensures plan { IfOk result (λ plan. IsFewestPlan (width_of theory.now) (theory_of theory.now)
+    ensures made { IfOk result (λ plan. IsFewestPlan (width_of theory.now) (theory_of theory.now)
         (attributes nullable) (scheme_sets plan)) }
     ensures lossless { IfOk result (λ plan.
         IsLossless (width_of theory.now) (theory_of theory.now) (plan_of plan)) }
@@ -33,7 +34,29 @@ pub fn fewest_plan(alloc: Global, theory: &Theory, nullable: AttrSet) -> Result<
         (attributes nullable) (scheme_sets plan))
         → AreFewest (width_of theory.now) (theory_of theory.now) is.is_merged.groups) }
 {
-    Err(OutOfMemory)
+    let steps = fewest_steps(alloc, theory, nullable)?;
+    let merged = merged_plan(alloc, theory, &steps)?;
+    let plain = plan_of_steps(alloc, theory, &steps.plain)?;
+    Ok(smaller_plan(merged, plain))
+}
+
+// The second of two plans where it has fewer schemes, and else the first.
+fn smaller_plan(first: Plan, second: Plan) -> Plan
+    ensures chosen { scheme_sets result ≡ smaller (scheme_sets first) (scheme_sets second) }
+    ensures either { (result ≡ first) ⊎ (result ≡ second) }
+{
+    if has_fewer(&second, &first) {
+        second
+    } else {
+        first
+    }
+}
+
+/// Whether a plan has fewer schemes than another.
+pub fn has_fewer(plan: &Plan, other: &Plan) -> bool
+    ensures fewer { result ≡ nat_lt (length (scheme_sets plan.now)) (length (scheme_sets other.now)) }
+{
+    plan.schemes().len() < other.schemes().len()
 }
 
 /// The plan that the steps lead to: the schemes of the groups without contained ones.
@@ -53,5 +76,6 @@ pub fn merged_plan(
     ensures keeps { IfOk result (λ plan.
         KeepsDependencies (width_of theory.now) (theory_of theory.now) (plan_of plan)) }
 {
-    Err(OutOfMemory)
+    let schemes = Vec::from_slice(alloc, &steps.schemes)?;
+    Ok(drop_contained(theory, Plan::new(theory, schemes)))
 }

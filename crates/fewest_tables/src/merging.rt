@@ -1,36 +1,65 @@
-ghost use Rattle.std.specs.Prelude.{◌≡◌, IfOk};
+ghost use Rattle.std.specs.Prelude.{◌≡◌, map, IfOk};
+ghost use Rattle.std.specs.List.{list_any};
 ghost use Rattle.attr_sets.specs.Sets.{attributes};
 ghost use Rattle.dep_model.specs.Deps.{dependency_of, dependencies_of};
 ghost use Rattle.dep_model.specs.Plans.{schemes_of};
-ghost use Rattle.fewest_tables.specs.FewestSteps.{group_with};
-ghost use Rattle.fewest_tables.specs.MergedPlans.{is_among, merged_scheme};
+ghost use Rattle.fewest_tables.specs.FewestSteps.{groups_in};
+ghost use Rattle.fewest_tables.specs.MergedPlans.{is_among, merged_scheme, has_same_sides};
 
+use crate::grouping::{Grouping, group_with};
 use attr_sets::AttrSet;
-use dep_model::{Dep, OutOfMemory};
-use fd_closure::KnownClosure;
+use dep_model::{Dep, OutOfMemory, sides};
 use std::alloc::Global;
+use synthesis_3nf::group_scheme;
 
-/// The sets of a list that have the closure of one, in order.
-pub fn group_with(
+// The schemes of groups of left sides, by the dependencies of a list.
+pub fn merged_schemes(
     alloc: Global,
-    known: &[KnownClosure],
-    one: KnownClosure,
+    deps: &[Dep],
+    groups: &Grouping,
 ) -> Result<Vec<AttrSet>, OutOfMemory>
-    ensures group { IfOk result (λ group. schemes_of group.items ≡ group_with known.now one) }
+    ensures schemes { IfOk result (λ schemes. schemes_of schemes.items
+        ≡ map (merged_scheme (dependencies_of deps.now)) (groups_in groups.now)) }
 {
-    Err(OutOfMemory)
+    let mut schemes = Vec::new(alloc);
+    for first in groups.firsts.iter() {
+        let group = group_with(alloc, &groups.lefts, *first)?;
+        schemes.push(merged_scheme(deps, &group))?;
+    }
+    Ok(schemes)
 }
 
-/// The scheme of a group of left sides: these, with all that the dependencies of the list with one of them determine.
+/// The scheme of a group of left sides: these, with all that the dependencies of the list with one of them
+/// determine.
 pub fn merged_scheme(deps: &[Dep], group: &[AttrSet]) -> AttrSet
     ensures scheme { attributes result ≡ merged_scheme (dependencies_of deps.now) (schemes_of group.now) }
 {
-    AttrSet::empty()
+    let mut scheme = AttrSet::empty();
+    for left in group {
+        scheme = scheme.union(group_scheme(deps, *left));
+    }
+    scheme
 }
 
 /// Whether a dependency is one of a list.
 pub fn is_among(deps: &[Dep], dep: Dep) -> bool
     ensures among { result ≡ is_among (dependencies_of deps.now) (dependency_of dep) }
 {
-    false
+    is_one_of(deps, dep)
+}
+
+fn is_one_of(deps: &[Dep], dep: Dep) -> bool
+    ensures same { result
+        ≡ list_any (λ other. has_same_sides (dependency_of other) (dependency_of dep)) deps.now }
+{
+    deps.iter().any(|other| has_same_sides(*other, dep))
+}
+
+// Whether two dependencies have the same left side and the same right side.
+fn has_same_sides(dep: Dep, other: Dep) -> bool
+    ensures same { result ≡ has_same_sides (dependency_of dep) (dependency_of other) }
+{
+    let (lhs, rhs) = sides(dep);
+    let (left, right) = sides(other);
+    lhs == left && rhs == right
 }
