@@ -1,9 +1,8 @@
 -- `form` has one answer: one form of each scheme, and one violation of each form that it is not in.
-use Rattle.std.proofs.Common.{◌≡◌, ℕ, List, [], ◌∷◌, ◌++◌, Option, Some, None, refl, sym, ap, ◌∙◌, inl, inr}
+use Rattle.std.proofs.Common.{◌≡◌, ℕ, List, [], ◌∷◌, ◌++◌, Option, sym, ap, ◌∙◌, inl, inr}
 use Rattle.std.specs.Prelude.{All}
 use Rattle.std.proofs.lemmas.List.Elements.{All-cons, All-contains, All-head, All-nil, All-tail}
 use Rattle.attr_sets.specs.Attributes.{Attributes, below, IsSubset}
-use Rattle.dep_model.specs.Dependencies.{Dependency}
 use Rattle.dep_model.specs.Plans.{IsPlan}
 use Rattle.dep_model.specs.declared.form.Form.TheVariants.{Third, Bcnf, Fourth}
 use Rattle.schema_model.specs.Schemas.{Schema, theory_of, universe_of, width_of}
@@ -12,7 +11,7 @@ use Rattle.fd_closure.specs.LeftSides.{IsWideScheme}
 use Rattle.split_forms.proofs.StepLemmas.{split_at_first-unique}
 use Rattle.which_form.specs.declared.forms.TestedForm.{TestedForm}
 use Rattle.which_form.specs.declared.forms.TestedForm.TheVariants.{Second, Higher}
-use Rattle.which_form.specs.Verdicts.{IsLastForm}
+use Rattle.which_form.proofs.SecondLemmas.{one_last, one_named}
 use Rattle.desk_responses.specs.Lines.{too_wide_text}
 use Rattle.desk_responses.specs.ResponseValues.{ResponseValue, IsFirstFailing, text_only}
 use Rattle.desk_responses.specs.declared.status.Status.TheVariants.{Yes, Refused}
@@ -20,38 +19,8 @@ use Rattle.desk_designs.specs.FormsOfSchemes.{ArePlanTexts, IsSchemeText, IsTest
 use Rattle.implication_laws.specs.OneAnswer.{AllowsOne}
 use Rattle.implication_laws.proofs.OnePlanAnswer.{failing_in_plan}
 use Rattle.implication_laws.proofs.StepLaws.{same_says}
-use Rattle.plan_laws.proofs.TestedForms.{one_named}
 
 -- ---- the lines of a scheme
--- a scheme has one last form such that it is in it and in all before it
-one_last : (n : ℕ) (ds : List Dependency) (scheme : Attributes) (last least : Option TestedForm)
-    → IsLastForm n ds scheme last → IsLastForm n ds scheme least → last ≡ least
-one_last n ds scheme None None one other = refl
-one_last n ds scheme None (Some Second) one other = absurd (one other.0)
-one_last n ds scheme None (Some (Higher Third)) one other = absurd (one other.0)
-one_last n ds scheme None (Some (Higher Bcnf)) one other = absurd (one other.0)
-one_last n ds scheme None (Some (Higher Fourth)) one other = absurd (one other.0)
-one_last n ds scheme (Some Second) None one other = absurd (other one.0)
-one_last n ds scheme (Some Second) (Some Second) one other = refl
-one_last n ds scheme (Some Second) (Some (Higher Third)) one other = absurd (one.1 other.1)
-one_last n ds scheme (Some Second) (Some (Higher Bcnf)) one other = absurd (one.1 other.1)
-one_last n ds scheme (Some Second) (Some (Higher Fourth)) one other = absurd (one.1 other.1)
-one_last n ds scheme (Some (Higher Third)) None one other = absurd (other one.0)
-one_last n ds scheme (Some (Higher Third)) (Some Second) one other = absurd (other.1 one.1)
-one_last n ds scheme (Some (Higher Third)) (Some (Higher Third)) one other = refl
-one_last n ds scheme (Some (Higher Third)) (Some (Higher Bcnf)) one other = absurd (one.2 other.2)
-one_last n ds scheme (Some (Higher Third)) (Some (Higher Fourth)) one other = absurd (one.2 other.2)
-one_last n ds scheme (Some (Higher Bcnf)) None one other = absurd (other one.0)
-one_last n ds scheme (Some (Higher Bcnf)) (Some Second) one other = absurd (other.1 one.1)
-one_last n ds scheme (Some (Higher Bcnf)) (Some (Higher Third)) one other = absurd (other.2 one.2)
-one_last n ds scheme (Some (Higher Bcnf)) (Some (Higher Bcnf)) one other = refl
-one_last n ds scheme (Some (Higher Bcnf)) (Some (Higher Fourth)) one other = absurd (one.3 other.3)
-one_last n ds scheme (Some (Higher Fourth)) None one other = absurd (other one.0)
-one_last n ds scheme (Some (Higher Fourth)) (Some Second) one other = absurd (other.1 one.1)
-one_last n ds scheme (Some (Higher Fourth)) (Some (Higher Third)) one other = absurd (other.2 one.2)
-one_last n ds scheme (Some (Higher Fourth)) (Some (Higher Bcnf)) one other = absurd (other.3 one.3)
-one_last n ds scheme (Some (Higher Fourth)) (Some (Higher Fourth)) one other = refl
-
 one_violation : (s : Schema) (scheme : Attributes) (form : TestedForm) (text other : List ℕ)
     → IsSubset scheme (below (width_of s)) → IsViolationText s scheme form text → IsViolationText s scheme form other
     → text ≡ other

@@ -3,7 +3,6 @@ pub mod FormPlans
 pub mod PlanLengths
 mod DesignedLaws
 mod RejoinedLaws
-mod TestedForms
 pub mod UniqueLaws
 pub mod FormTables
 pub mod NameLaws

@@ -22,6 +22,7 @@ use Rattle.dep_model.proofs.ListLemmas.{Contains-head}
 use Rattle.dep_model.specs.declared.form.Form.{Form}
 use Rattle.dep_model.specs.declared.form.Form.TheVariants.{Third}
 use Rattle.which_form.specs.declared.forms.TestedForm.{TestedForm}
+use Rattle.which_form.proofs.SecondLemmas.{named_not_in_form, one_named}
 use Rattle.primary_keys.proofs.PrimaryLemmas.{one_primary}
 use Rattle.plans.specs.Containing.{is_contained, without_contained_after, without_contained}
 use Rattle.preservation.specs.Keeping.{IsPreserved, IsLostOn, LossesFrom}
@@ -43,7 +44,6 @@ use Rattle.desk_texts.specs.Texts.{line}
 use Rattle.desk_designs.specs.NormalForms.{JudgesForm, EndsForm, PassesForm, violated_text}
 use Rattle.desk_designs.specs.Keeping.{JudgesKeeping, loss_text, two_tuples_text}
 use Rattle.typed_rows.specs.Shown.{shown_tuples}
-use Rattle.plan_laws.proofs.TestedForms.{not_in_tested, one_named}
 
 -- ---- what is kept of a list rests on its sets alone
 any_map : {X Y : Type 0} (f : X → Y) (p : Y → Bool) (xs : List X) → list_any (λ x. p (f x)) xs ≡ list_any p (map f xs)
@@ -243,7 +243,7 @@ ends_fails : (s : Schema) (form : TestedForm) (scheme : Attributes) (response : 
     → IsSubset scheme (below (width_of s)) → EndsForm s form scheme response → PassesForm s form scheme → ⊥
 ends_fails s form scheme response low (inl (wide, says)) passes = passes.narrow wide
 ends_fails s form scheme response low (inr (narrow, found)) passes =
-    not_in_tested (width_of s) (theory_of s) form scheme found.0 found.1 low found.2 passes.in_form
+    named_not_in_form (width_of s) (theory_of s) form scheme found.0 found.1 low found.2 passes.in_form
 
 one_end : (s : Schema) (form : TestedForm) (scheme : Attributes) (one other : ResponseValue)
     → IsSubset scheme (below (width_of s)) → EndsForm s form scheme one → EndsForm s form scheme other → one ≡ other
