@@ -5,4 +5,5 @@ mod FileRefusals
 mod QuestionRefusals
 mod PlanRefusals
 mod RowRefusals
+mod ReferenceRefusals
 mod WordRefusals
