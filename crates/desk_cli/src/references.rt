@@ -5,9 +5,10 @@ ghost use Rattle.std.specs.Prelude.{◌≡◌, ◌≤◌, ◌∷◌, []};
 ghost use Rattle.desk_inputs.specs.FileKinds.{WithFile};
 ghost use Rattle.desk_inputs.specs.FilesBegun.{BeginsFront};
 ghost use Rattle.desk_inputs.specs.Headed.{headed_file};
-ghost use Rattle.desk_inputs.specs.HeadedFiles.{WithFiles};
+ghost use Rattle.desk_inputs.specs.HeadedFiles.{WithHeadedFiles};
 ghost use Rattle.desk_inputs.specs.Readings.{Reading, Shows};
-ghost use Rattle.desk_references.specs.References.{ChecksReferences, FindsReferences};
+ghost use Rattle.desk_references.specs.Checks.{ChecksReferences};
+ghost use Rattle.desk_references.specs.Findings.{FindsReferences};
 ghost use Rattle.desk_responses.specs.Responses.{RespondsAs};
 
 use arguments::Argument;
@@ -15,7 +16,6 @@ use desk_inputs::{Purpose, open_headed, open_headed_files};
 use desk_outside::FileSource;
 use desk_references::{check_references, find_references};
 use desk_responses::{EarlyExit, Response};
-use desk_words::MOST_FILES;
 use row_store::Hashing;
 use std::alloc::Global;
 
@@ -31,13 +31,13 @@ pub fn of_headed_files<F: FileSource>(
     ensures reads { BeginsFront files.now
         (F.begun source.old) (F.begun source.new) }
     ensures response { (r : Reading) → Shows F.files F.faults F.taken F.begun source.old source.new r
-        → RespondsAs (WithFiles headed_file r files.now (FindsReferences files.now)) result }
+        → RespondsAs (WithHeadedFiles r files.now (FindsReferences files.now)) result }
 {
     let heads = match open_headed_files(alloc, source, files) {
         Ok(heads) => heads,
         Err(exit) => return Err(exit),
     };
-    find_references(alloc, hashing, files, heads)
+    find_references(alloc, hashing, files, &heads)
 }
 
 /// Whether each row of a file, by columns of these names, has its match in another, by columns of others.
@@ -67,5 +67,5 @@ pub fn of_two_headed<F: FileSource>(
         Ok(others) => others,
         Err(exit) => return Err(exit),
     };
-    check_references(alloc, hashing, own, names, others, other_names)
+    check_references(alloc, hashing, &own, names, &others, other_names)
 }

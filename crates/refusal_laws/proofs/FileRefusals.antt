@@ -33,7 +33,7 @@ use Rattle.headed_rows.specs.declared.refusal.HeaderRefusal.{HeaderRefusal}
 use Rattle.desk_arguments.specs.Goals.{GoalStops, IsGoal, IsSetText, SetStops, WithGoal, WithSet}
 use Rattle.desk_inputs.specs.FileKinds.{FileKind, FileStops, IsFile, LoadStops, WithFile}
 use Rattle.desk_inputs.specs.Headed.{headed_file, headed_file_for, headed_refusal_text}
-use Rattle.desk_inputs.specs.HeadedFiles.{AreFiles, FilesStop, WithFiles}
+use Rattle.desk_inputs.specs.HeadedFiles.{AreHeadedFiles, HeadedFilesStop, WithHeadedFiles}
 use Rattle.desk_inputs.specs.Inputs.{derivation_file, proof_file, schema_file}
 use Rattle.desk_inputs.specs.Parts.{ArePartFiles, PartsStop, WithParts, part_file}
 use Rattle.desk_inputs.specs.Plans.{plan_file, plan_refusal_text}
@@ -204,16 +204,16 @@ module _ (names : List (List ℕ)) where
 
   -- files of rows under names of their own, all of which are named
   headed_files_stop : (r : Reading) (files : List (List ℕ)) → ((file : List ℕ) → Contains files file → Contains names file)
-      → RefusesSo names (FilesStop headed_file r files)
+      → RefusesSo names (HeadedFilesStop r files)
   headed_files_stop r files each response (first, stops) refused =
       let given = each first.name (listed files first.position first.name first.stands) in
       file_refuses headed_file r first.name given (λ why. headed_refusal (codes "discover") first.name why refl given) response stops refused
 
   pub after_headed_files : (r : Reading) (files : List (List ℕ)) → ((file : List ℕ) → Contains files file → Contains names file)
       → (rest : List HeadedRows → Allowed) → ((heads : List HeadedRows) → RefusesSo names (rest heads))
-      → RefusesSo names (WithFiles headed_file r files rest)
+      → RefusesSo names (WithHeadedFiles r files rest)
   after_headed_files r files each rest later =
-      with_refuses names (FilesStop headed_file r files) (AreFiles headed_file r files) rest (headed_files_stop r files each)
+      with_refuses names (HeadedFilesStop r files) (AreHeadedFiles r files) rest (headed_files_stop r files each)
       (λ heads are. later heads)
 
   -- ---- goals and sets

@@ -22,7 +22,8 @@ use Rattle.desk_inputs.specs.Headed.{headed_file, imported, wholly_discovered}
 use Rattle.desk_inputs.specs.Readings.{Reading}
 use Rattle.desk_inputs.specs.Rows.{rows_file}
 use Rattle.desk_measures.specs.Measures.{MeasuresRows}
-use Rattle.desk_references.specs.References.{ChecksReferences, FindsReferences}
+use Rattle.desk_references.specs.Checks.{ChecksReferences}
+use Rattle.desk_references.specs.Findings.{FindsReferences}
 use Rattle.desk_reports.specs.Reports.{ReportsPlan}
 use Rattle.desk_responses.specs.ResponseValues.{Allowed, ResponseValue, Says}
 use Rattle.desk_responses.specs.declared.status.Status.TheVariants.{Refused}

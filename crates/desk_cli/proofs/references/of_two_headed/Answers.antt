@@ -5,7 +5,7 @@ use Rattle.desk_inputs.specs.FileKinds.{FileStops, IsFile, WithFile}
 use Rattle.desk_inputs.specs.Headed.{headed_file}
 use Rattle.desk_inputs.proofs.BegunLemmas.{front_later, front_longer}
 use Rattle.desk_inputs.proofs.ReadingLemmas.{Shows-later}
-use Rattle.desk_references.specs.References.{ChecksReferences}
+use Rattle.desk_references.specs.Checks.{ChecksReferences}
 use Rattle.desk_responses.proofs.StepLemmas.{With-found}
 use Rattle.desk_cli.proofs.references.of_two_headed.Goals as goal
 
