@@ -3,7 +3,7 @@
 use Rattle.std.proofs.Common.{◌≡◌, ℕ, zero, suc, List, [], ◌∷◌, take, Some, refl, sym, ap, subst, ◌∙◌}
 use Rattle.std.specs.Prelude.{slice_get}
 use Rattle.std.specs.List.{AllZip}
-use Rattle.headed_rows.specs.Headings.{HeadedRows, discovered}
+use Rattle.headed_rows.specs.Headings.{HeadedRows, IsHeadedWithin, discovered}
 use Rattle.implication_laws.specs.OneAnswer.{AllowsOne}
 use Rattle.implication_laws.proofs.StepLaws.{With-one}
 use Rattle.desk_inputs.specs.FileKinds.{FileStops, IsFile}
@@ -25,7 +25,8 @@ module _ (files : Files) where
 
   one_headed_stop : (name : List ℕ) → AllowsOne (FileStops headed_file known name)
   one_headed_stop name =
-      one_stop files name headed_file (λ (h : HeadedRows). h) (headed_file).means (headed_text_once discovered) (λ text h means. means)
+      one_stop files name headed_file (λ (h : HeadedRows). h) (IsHeadedWithin discovered) (headed_text_once discovered)
+      (λ text h means. means)
 
   headed_goes : (name : List ℕ) (h : HeadedRows) (response : ResponseValue) → IsRead name h
       → FileStops headed_file known name response → ⊥
