@@ -24,8 +24,9 @@ use Rattle.schema_grammar.specs.declared.refusal.What.TheVariants as what
 use Rattle.schema_grammar.proofs.OneRefusal.{AtFirst-one, one_first}
 use Rattle.headed_rows.specs.Headings.{HeadedRows}
 use Rattle.file_references.specs.Columns.{HasWholeRow, file_at}
-use Rattle.file_references.specs.References.{AreAllReferences, AreColumnsBefore, IsCandidate, IsListBefore, IsReference, Precedes, Reference}
+use Rattle.file_references.specs.References.{AreAllReferences, AreColumnsBefore, AreNamesakes, IsCandidate, IsListBefore, IsOneColumn, IsReference, Precedes, Reference}
 use Rattle.implication_laws.specs.OneAnswer.{AllowsOne}
+use Rattle.implication_laws.proofs.ImplyingLaws.{no_not_yes}
 use Rattle.implication_laws.proofs.StepLaws.{Unless-one, With-one, same_says}
 use Rattle.desk_references.specs.Checks.{ChecksReferences, JudgesReference, StopsUnpaired}
 use Rattle.desk_references.specs.ColumnLists.{AreColumns, ColumnDiagnostic, ColumnsStop, MeansColumns, NamesColumnAt, RefusesColumns, WithColumns, columns_refusal_text}
@@ -33,7 +34,7 @@ use Rattle.desk_references.specs.Findings.{FindsReferences, reference_text}
 use Rattle.desk_references.specs.declared.columns.TheConstants.{MOST_LISTED_COLUMNS}
 use Rattle.desk_laws.proofs.StopLemmas.{With-goes, status_is}
 use Rattle.desk_responses.specs.ResponseValues.{ResponseValue, Allowed, Unless}
-use Rattle.desk_responses.specs.declared.status.Status.TheVariants.{No, Refused, Yes}
+use Rattle.desk_responses.specs.declared.status.Status.TheVariants.{Refused, Yes}
 
 -- ---- lists of references
 -- no two lists of numbers come before each other
@@ -104,7 +105,7 @@ module _ (names : List (List ℕ)) where
   -- the word at a position names a column
   named_at : (ms : List Mark) (xs : List ℕ) (position : ℕ) (m : Mark) → AllZip (NamesColumnAt names) ms xs
       → slice_get ms position ≡ Some m → (column : ℕ) × NamesColumnAt names m column × Contains xs column × (position < length xs)
-  named_at [] xs position m each at = cc
+  named_at [] xs position m each at = absurd cc
   named_at (n ∷ ms) [] position m each at = absurd each
   named_at (n ∷ ms) (x ∷ xs) zero m each at =
       let same : n ≡ m = cc in
@@ -280,10 +281,11 @@ zip_lengths R (x ∷ xs) [] each = absurd each
 zip_lengths R (x ∷ xs) (y ∷ ys) each = ap suc (zip_lengths R xs ys each.1)
 
 as_many : (files : List HeadedRows) (ref : Reference) → IsCandidate files ref → length ref.columns ≡ length ref.key
-as_many files ref candidate = ⊎_elim
-    (λ one. ap length one.source ∙ sym (ap length one.target))
-    (λ several. zip_lengths _ ref.columns ref.key several.named)
-    candidate.source
+as_many files ref candidate = by_source candidate.source
+  where
+    by_source : IsOneColumn files ref ⊎ AreNamesakes files ref → length ref.columns ≡ length ref.key
+    by_source (inl one) = ap length one.source ∙ sym (ap length one.target)
+    by_source (inr several) = zip_lengths _ ref.columns ref.key several.named
 
 pub checked_references : (files : List HeadedRows) (refs : List Reference) (ref : Reference) (first second : List ℕ)
     (response : ResponseValue) → AreAllReferences files refs → IsCandidate files ref
@@ -309,6 +311,4 @@ checked_references files refs ref first second response are candidate stated als
         → JudgesReference (file_at files ref.file) ref.columns (file_at files ref.target) ref.key response → Contains refs ref
     confirmed yes some_row (inl (within, said)) =
         are.all ref (record { candidate = candidate; within = within; some_row = some_row })
-    confirmed yes some_row (inr (not_within, said)) =
-        let no : response.status ≡ No = status_is response _ said in
-        let wrong : Yes ≡ No = sym yes ∙ no in cc
+    confirmed yes some_row (inr (not_within, said)) = absurd (no_not_yes response yes (status_is response _ said))
