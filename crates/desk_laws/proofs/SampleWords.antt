@@ -7,7 +7,8 @@ use Rattle.lexer.specs.Bytes.{number_of}
 use Rattle.dep_model.specs.declared.form.Form.{Form}
 use Rattle.sample_rows.specs.declared.rows.TheConstants.{MOST_PERSONS}
 use Rattle.desk_words.specs.Forms as form
-use Rattle.desk_words.specs.Forms.{CommandForm, PlanQuestion, RowsQuestion, SchemaQuestion, Task, after_check, after_check_form, after_ddl, after_discover, discover_in_one, several_files, two_named_files, after_draw, after_explain, after_explain_split, after_keys, after_migrate, after_migrate_form, after_migrate_plan, after_offences, after_report, after_split, after_sql, after_sql_migrate, are_one_to_64, form_of, form_over_rows, form_over_schema, no_more_arguments, normal_form, persons_alone, schema_alone, schema_and_file, schema_and_plan, schema_and_plan_and_word, schema_and_rows, schema_and_several, schema_and_two, schema_and_word, two_schemas, after_import, dialect_of, file_and_table, word_alone}
+use Rattle.desk_words.specs.Forms.{CommandForm, PlanQuestion, RowsQuestion, SchemaQuestion, Task, after_check, after_check_form, after_ddl, after_discover, after_draw, after_explain, after_explain_split, after_keys, after_migrate, after_migrate_form, after_migrate_plan, after_offences, after_report, after_split, after_sql, after_sql_migrate, are_one_to_64, form_of, form_over_rows, form_over_schema, no_more_arguments, normal_form, persons_alone, schema_alone, schema_and_file, schema_and_plan, schema_and_plan_and_word, schema_and_rows, schema_and_several, schema_and_two, schema_and_word, two_schemas, after_import, dialect_of, file_and_table, word_alone}
+use Rattle.desk_words.specs.Forms.{discover_in_one, several_files, two_named_files}
 use Rattle.sql_lexemes.specs.declared.dialect.Dialect.{Dialect}
 use Rattle.desk_words.specs.Numbers.{is_count, is_left_bound, is_row_bound}
 

@@ -34,7 +34,8 @@ use Rattle.desk_texts.specs.Texts.{unknown_words_text}
 use Rattle.desk_words.specs.Forms as form
 use Rattle.desk_words.specs.Forms.{CommandForm, PlanQuestion, RowsQuestion, RulesQuestion, SchemaQuestion, Task, form_of}
 use Rattle.refusal_laws.specs.Refusals.{IsRefusal, names_of_command, names_of_task, names_of_words}
-use Rattle.refusal_laws.proofs.FileRefusals.{after_derivation, after_headed, after_headed_files, after_parts, after_plan, after_proof, after_rows, after_schema, after_sql}
+use Rattle.refusal_laws.proofs.FileRefusals.{after_derivation, after_headed, after_parts, after_plan, after_proof, after_rows, after_schema, after_sql}
+use Rattle.refusal_laws.proofs.FileRefusals.{after_headed_files}
 use Rattle.refusal_laws.proofs.PlanRefusals.{check_scripted, explained_split_refuses, explained_synthesis_refuses, form_drawn, form_into, form_placed, form_refuses, form_scripted, form_written, join_refuses, joined, keeping_refuses, plan_drawn, plan_into, plan_placed, plan_scripted, plan_written, rows_refuse, sample_refuses, split_refuses, synthesis_refuses, wide_split_refuses}
 use Rattle.refusal_laws.proofs.QuestionRefusals.{basis_refuses, check_cover_refuses, closure_refuses, cover_refuses, derivation_refuses, exhibit_refuses, explained_cover_refuses, explained_keys_refuse, implication_refuses, key_refuses, keys_refuse, plan_keys_refuse, projection_refuses, proof_refuses, same_refuses}
 use Rattle.refusal_laws.proofs.ReferenceRefusals.{check_references_refuses, references_refuse}
