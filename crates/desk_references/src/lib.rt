@@ -1,0 +1,14 @@
+//! References between files: all that there are, and whether one holds, with the rows that have no match.
+//!
+//! Each is a pure function of values.
+//!
+//! Promises: the response is allowed.
+#![tactic(auto)]
+
+mod checking;
+mod columns;
+mod finding;
+
+pub use checking::check_references;
+pub use columns::{MOST_LIST_BYTES, MOST_LISTED_COLUMNS};
+pub use finding::find_references;
