@@ -93,7 +93,7 @@ kept_is earlier (x ∷ later) =
           (ap (λ (l : List Attributes). attributes x ∷ l) same)
     ])
 
-kept_same : (all others plan other : List AttrSet) → plan ≡ without_contained all → other ≡ without_contained others
+pub kept_same : (all others plan other : List AttrSet) → plan ≡ without_contained all → other ≡ without_contained others
     → schemes_of all ≡ schemes_of others → schemes_of plan ≡ schemes_of other
 kept_same all others plan other kept also same =
     ap schemes_of kept ∙ kept_is [] all ∙ ap (λ (l : List Attributes). kept_after [] l) same ∙ sym (kept_is [] others)
