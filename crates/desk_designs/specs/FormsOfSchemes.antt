@@ -67,15 +67,17 @@ ArePlanTexts schema (scheme ∷ plan) text =
 abbrev pub IsTestable : Schema → Attributes → Type 0
 IsTestable schema scheme = IsWideScheme (theory_of schema) scheme → ⊥
 
--- yes, with the form of each scheme, where each is narrow enough to be tested; else refused for the first that
--- is too wide, as `check form` refuses it
+-- refused, for the first scheme that is too wide
+abbrev pub RefusesWide : Schema → List Attributes → Allowed
+RefusesWide schema plan response =
+    (scheme : Attributes) × IsFirstFailing (IsTestable schema) plan scheme × IsWideScheme (theory_of schema) scheme
+    × Says Refused (too_wide_text (printed_names_of schema) scheme) response
+
+-- yes, with the form of each scheme, where each is narrow enough to be tested; else refused, as `check form` does
 abbrev pub ListsFormsOfPlan : Schema → List Attributes → Allowed
 ListsFormsOfPlan schema plan response =
-    (All (IsTestable schema) plan
-    × ((text : List ℕ) × ArePlanTexts schema plan text × Says Yes text response))
-    ⊎ ((scheme : Attributes) × IsFirstFailing (IsTestable schema) plan scheme
-    × IsWideScheme (theory_of schema) scheme
-    × Says Refused (too_wide_text (printed_names_of schema) scheme) response)
+    (All (IsTestable schema) plan × ((text : List ℕ) × ArePlanTexts schema plan text × Says Yes text response))
+    ⊎ RefusesWide schema plan response
 
 -- the same of the table of all attributes
 abbrev pub ListsFormOfAll : Schema → Allowed
