@@ -3,5 +3,5 @@ pub mod SplitLemmas
 pub mod MissingLemmas
 mod ShownLosses
 mod ShownFirst
-mod TextLemmas
+mod TestedLemmas
 pub mod StatusLemmas

@@ -2,6 +2,7 @@
 -- does not cite it.
 use Rattle.std.specs.Prelude.{ℕ, List, [], ◌++◌, Option, Some, None, map}
 use Rattle.attr_sets.specs.Attributes.{Attributes}
+use Rattle.attr_sets.specs.declared.set.AttrSet.{AttrSet}
 use Rattle.attr_sets.specs.Sets.{attributes}
 use Rattle.schema_model.specs.Schemas.{width_of, theory_of}
 use Rattle.schema_model.specs.Schemas.{Schema}
@@ -13,6 +14,10 @@ use Rattle.which_form.specs.declared.forms.SchemeForms.{SchemeForms}
 use Rattle.which_form.specs.Verdicts.{AreVerdicts}
 use Rattle.desk_designs.specs.declared.forms.TestedScheme.{TestedScheme}
 use Rattle.desk_designs.specs.FormsOfSchemes.{IsTestable, violation_line}
+
+-- a scheme with its forms
+abbrev pub tested_scheme : AttrSet → SchemeForms → TestedScheme
+tested_scheme scheme forms = record { scheme = scheme; forms = forms }
 
 -- these are the forms of a scheme that is narrow enough to be tested
 pub record AreFormsOf (schema : Schema) (scheme : Attributes) (forms : SchemeForms) : Type 0 where

@@ -1,4 +1,4 @@
-ghost use Rattle.std.specs.Prelude.{◌≡◌, All, IfOk, IfErr, IfSome};
+ghost use Rattle.std.specs.Prelude.{◌≡◌, ◌∷◌, ◌++◌, [], All, IfOk, IfErr, IfSome, OnOk};
 ghost use Rattle.attr_sets.specs.Attributes.{IsSubset};
 ghost use Rattle.attr_sets.specs.Sets.{attributes};
 ghost use Rattle.dep_model.specs.Plans.{schemes_of};
@@ -11,7 +11,7 @@ ghost use Rattle.desk_responses.specs.ResponseValues.{ResponseValue, Says};
 ghost use Rattle.desk_responses.specs.Lines.{too_wide_text};
 ghost use Rattle.fd_closure.specs.LeftSides.{IsWideScheme};
 ghost use Rattle.desk_designs.specs.FormsOfSchemes.{ArePlanTexts, IsSchemeText, ListsFormOfAll, ListsFormsOfPlan, RefusesWide, form_line, last_word};
-ghost use Rattle.desk_designs.specs.TestedSchemes.{AreFormsOf, IsTestedScheme, breach_text, breaches_text, schemes_tested};
+ghost use Rattle.desk_designs.specs.TestedSchemes.{AreFormsOf, IsTestedScheme, breach_text, breaches_text, schemes_tested, tested_scheme};
 
 use crate::form::{tested_dependency, word_of_tested};
 use attr_sets::AttrSet;
@@ -75,14 +75,23 @@ fn test_each(
     let mut found: Vec<TestedScheme> = Vec::new(alloc);
     for scheme in schemes {
         match forms_after(alloc, schema, &found, *scheme) {
-            Ok(forms) => found.push(TestedScheme {
-                scheme: *scheme,
-                forms,
-            })?,
+            Ok(forms) => add_tested(&mut found, *scheme, forms)?,
             Err(exit) => return Err(exit),
         }
     }
     Ok(found)
+}
+
+// One scheme more, with its forms.
+fn add_tested(
+    found: &mut Vec<TestedScheme>,
+    scheme: AttrSet,
+    forms: SchemeForms,
+) -> Result<(), OutOfMemory>
+    ensures added { OnOk result (found.new.items ≡ found.old.items ++ tested_scheme scheme forms ∷ []) }
+{
+    found.push(TestedScheme { scheme, forms })?;
+    Ok(())
 }
 
 // The forms of a scheme, where those of some schemes are known.

@@ -1,6 +1,6 @@
 -- What is left to prove of `listed`: its clause, by `tested_testable`.
 use Rattle.std.proofs.Common.{inl}
-use Rattle.desk_designs.proofs.TextLemmas.{tested_testable}
+use Rattle.desk_designs.proofs.TestedLemmas.{tested_testable}
 use Rattle.desk_designs.proofs.forms.listed.Goals as goal
 
 pub returns : goal.returns

@@ -1,11 +1,13 @@
--- The lines of schemes, of what was found of each.
+-- The schemes that were tested, and the lines of what was found of each.
 use Rattle.std.proofs.Common.{◌≡◌, ◌+◌, ◌<◌, ℕ, List, [], ◌∷◌, ◌++◌, length, get_or, take, refl, sym, ap, subst, ◌∙◌, inl, inr, append_assoc, append-nil}
 use Rattle.std.proofs.lemmas.Bool.{true≢false}
 use Rattle.std.proofs.lemmas.List.{map-append, take_more}
-use Rattle.std.proofs.lemmas.List.Elements.{All-map}
+use Rattle.std.proofs.lemmas.List.Elements.{All-nil, All-cons, All-head, All-tail, All-map}
 use Rattle.std.specs.Prelude.{Option, Some, None, All}
 use Rattle.attr_sets.specs.Attributes.{Attributes}
+use Rattle.attr_sets.specs.declared.set.AttrSet.{AttrSet}
 use Rattle.attr_sets.specs.Sets.{attributes}
+use Rattle.dep_model.specs.Plans.{schemes_of}
 use Rattle.schema_model.specs.Schemas.{width_of, theory_of}
 use Rattle.schema_model.specs.Schemas.{Schema}
 use Rattle.schema_printer.specs.Spelling.{printed_names_of}
@@ -17,7 +19,9 @@ use Rattle.which_form.specs.declared.forms.SchemeForms.{SchemeForms}
 use Rattle.which_form.specs.Verdicts.{AreVerdicts, IsLastForm, IsVerdict}
 use Rattle.desk_designs.specs.declared.forms.TestedScheme.{TestedScheme}
 use Rattle.desk_designs.specs.FormsOfSchemes.{ArePlanTexts, IsSchemeText, IsTestable, IsViolationText, form_line}
-use Rattle.desk_designs.specs.TestedSchemes.{IsTestedScheme, breach_text, breaches_text, schemes_tested}
+use Rattle.desk_designs.specs.TestedSchemes.{IsTestedScheme, breach_text, breaches_text, schemes_tested, tested_scheme}
+use Rattle.desk_responses.specs.ResponseValues.{IsFirstFailing}
+use Rattle.desk_responses.proofs.FormLemmas.{first_failing}
 
 -- the line of a violation stands where the scheme is not in the form
 breach_is_text : (s : Schema) (scheme : Attributes) (form : TestedForm) (found : Option Breach)
@@ -74,3 +78,28 @@ listed_more s found i d text one next short so_far is added =
 pub tested_testable : (s : Schema) (found : List TestedScheme) → All (IsTestedScheme s) found → All (IsTestable s) (schemes_tested found)
 tested_testable s found all =
     All-map (IsTestable s) (λ (tested : TestedScheme). attributes tested.scheme) found (λ k d short. (all k d short).testable)
+
+-- ---- the schemes that were tested, up to a position
+pub one_more_tested : (found : List TestedScheme) (schemes : List AttrSet) (i : ℕ) (d : AttrSet) (forms : SchemeForms) → i < length schemes
+    → schemes_tested found ≡ schemes_of (take i schemes)
+    → schemes_tested (found ++ tested_scheme (get_or schemes i d) forms ∷ []) ≡ schemes_of (take (i + 1) schemes)
+one_more_tested found schemes i d forms short list =
+    let x = get_or schemes i d in
+    map-append (λ (tested : TestedScheme). attributes tested.scheme) found (tested_scheme x forms ∷ [])
+    ∙ ap (λ (l : List Attributes). l ++ attributes x ∷ []) list
+    ∙ sym (ap schemes_of (take_more schemes i d short) ∙ map-append attributes (take i schemes) (x ∷ []))
+
+-- a fact of sets, of the sets of a list
+all_of_map : (P : Attributes → Type 0) (schemes : List AttrSet) → All P (schemes_of schemes) → All (λ scheme. P (attributes scheme)) schemes
+all_of_map P [] all = All-nil (λ (scheme : AttrSet). P (attributes scheme))
+all_of_map P (x ∷ schemes) all =
+    All-cons (λ (scheme : AttrSet). P (attributes scheme)) x schemes (All-head P (attributes x) (schemes_of schemes) all)
+    (all_of_map P schemes (All-tail P (attributes x) (schemes_of schemes) all))
+
+-- the next one is the first that fails, where it is too wide
+pub first_wide : (s : Schema) (found : List TestedScheme) (schemes : List AttrSet) (i : ℕ) (d : AttrSet) → i < length schemes
+    → All (IsTestedScheme s) found → schemes_tested found ≡ schemes_of (take i schemes)
+    → IsFirstFailing (IsTestable s) (schemes_of schemes) (attributes (get_or schemes i d))
+first_wide s found schemes i d short all list =
+    first_failing (IsTestable s) schemes i d short (all_of_map (IsTestable s) (take i schemes)
+    (subst (λ (l : List Attributes). All (IsTestable s) l) list (tested_testable s found all)))
