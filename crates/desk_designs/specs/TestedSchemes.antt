@@ -1,5 +1,5 @@
--- Schemes with what was found of them, and their texts: for the functions below `form_of_all` and `forms_of_plan`. `Desk`
--- does not cite it.
+-- Schemes with what was found of them, and their texts: for the functions below `form_of_all` and
+-- `forms_of_plan`. `Desk` does not cite it.
 use Rattle.std.specs.Prelude.{ℕ, List, [], ◌++◌, Option, Some, None, map}
 use Rattle.attr_sets.specs.Attributes.{Attributes}
 use Rattle.attr_sets.specs.declared.set.AttrSet.{AttrSet}
