@@ -3,4 +3,5 @@ pub mod SplitLemmas
 pub mod MissingLemmas
 mod ShownLosses
 mod ShownFirst
+mod TestedLemmas
 pub mod StatusLemmas

@@ -25,12 +25,14 @@ last_word (Some form) = tested_word form
 
 -- a scheme, and its form
 abbrev pub form_line : List (List ℕ) → Attributes → Option TestedForm → List ℕ
-form_line names scheme last = line (codes "scheme " ++ set_text names scheme ++ codes ": " ++ last_word last)
+form_line names scheme last =
+    line (codes "scheme " ++ set_text names scheme ++ codes ": " ++ last_word last)
 
 -- what violates a form
 abbrev pub violation_line : List (List ℕ) → TestedForm → Attributes → Attributes → List ℕ
 violation_line names form x y =
-    line (codes "  " ++ tested_word form ++ codes " violated by " ++ dependency_text names (tested_violation_of form x y))
+    line (codes "  " ++ tested_word form ++ codes " violated by "
+    ++ dependency_text names (tested_violation_of form x y))
 
 -- ---- answers
 -- what stands of a form below a scheme: nothing exactly where the scheme is in it, else the violation that
@@ -39,7 +41,8 @@ abbrev pub IsViolationText : Schema → Attributes → TestedForm → List ℕ �
 IsViolationText schema scheme form text =
     (IsInTested (width_of schema) (theory_of schema) form scheme × (text ≡ []))
     ⊎ ((IsInTested (width_of schema) (theory_of schema) form scheme → ⊥)
-    × ((x : Attributes) × (y : Attributes) × IsNamedViolation (width_of schema) (theory_of schema) form scheme x y
+    × ((x : Attributes) × (y : Attributes)
+    × IsNamedViolation (width_of schema) (theory_of schema) form scheme x y
     × (text ≡ violation_line (printed_names_of schema) form x y)))
 
 -- the lines of a scheme: its form, and what violates each of the forms that it is not in, in their order
@@ -67,15 +70,20 @@ ArePlanTexts schema (scheme ∷ plan) text =
 abbrev pub IsTestable : Schema → Attributes → Type 0
 IsTestable schema scheme = IsWideScheme (theory_of schema) scheme → ⊥
 
--- yes, with the form of each scheme, where each is narrow enough to be tested; else refused for the first that
--- is too wide, as `check form` refuses it
+-- refused, for the first scheme that is too wide
+abbrev pub RefusesWide : Schema → List Attributes → Allowed
+RefusesWide schema plan response =
+    (scheme : Attributes) × IsFirstFailing (IsTestable schema) plan scheme
+    × IsWideScheme (theory_of schema) scheme
+    × Says Refused (too_wide_text (printed_names_of schema) scheme) response
+
+-- yes, with the form of each scheme, where each is narrow enough to be tested; else refused, as by
+-- `check form`
 abbrev pub ListsFormsOfPlan : Schema → List Attributes → Allowed
 ListsFormsOfPlan schema plan response =
     (All (IsTestable schema) plan
     × ((text : List ℕ) × ArePlanTexts schema plan text × Says Yes text response))
-    ⊎ ((scheme : Attributes) × IsFirstFailing (IsTestable schema) plan scheme
-    × IsWideScheme (theory_of schema) scheme
-    × Says Refused (too_wide_text (printed_names_of schema) scheme) response)
+    ⊎ RefusesWide schema plan response
 
 -- the same of the table of all attributes
 abbrev pub ListsFormOfAll : Schema → Allowed

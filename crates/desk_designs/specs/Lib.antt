@@ -3,6 +3,7 @@ pub mod Synthesis
 pub mod Decompositions
 pub mod NormalForms
 pub mod FormsOfSchemes
+pub mod TestedSchemes
 pub mod Joins
 pub mod Keeping
 pub mod Designs

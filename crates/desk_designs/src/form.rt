@@ -76,7 +76,12 @@ fn stands_before(schemes: &[AttrSet], position: usize, scheme: AttrSet) -> bool
 }
 
 // Whether a scheme passes the test of a form.
-fn test_scheme(alloc: Global, schema: &Schema, form: TestedForm, scheme: AttrSet) -> Result<(), EarlyExit>
+fn test_scheme(
+    alloc: Global,
+    schema: &Schema,
+    form: TestedForm,
+    scheme: AttrSet,
+) -> Result<(), EarlyExit>
     requires within { IsSubset (attributes scheme) (universe_of schema.now) }
     ensures passes { IfOk result (λ _. PassesForm schema.now form (attributes scheme)) }
     ensures ends { IfErr result (ExitsAs (EndsForm schema.now form (attributes scheme))) }

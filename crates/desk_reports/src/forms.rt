@@ -91,7 +91,8 @@ fn shown_form(
 // Whether the universe is in a form.
 fn judged_form(alloc: Global, schema: &Schema, form: TestedForm) -> Result<Vec<u8>, OutOfMemory>
     ensures opens { IfOk result
-        (λ text. Opens (tested_title form) (JudgesForm schema.now form (universe_of schema.now ∷ [])) text.items) }
+        (λ text. Opens (tested_title form) (JudgesForm schema.now form (universe_of schema.now ∷ []))
+        text.items) }
 {
     let plan = plan_of_one(alloc, schema)?;
     let text = opened(

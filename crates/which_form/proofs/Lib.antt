@@ -3,4 +3,5 @@ mod FoundLemmas
 mod BetweenLemmas
 mod NamedLemmas
 mod VerdictLemmas
+mod FourthLemmas
 pub mod SecondLemmas

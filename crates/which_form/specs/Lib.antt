@@ -1,5 +1,5 @@
--- The definitions of which_form, in reading order: second form, the forms that a scheme is tested for, what is
--- found of one scheme, and how its keys are searched.
+-- The definitions of which_form, in reading order: second form, the forms that a scheme is tested for, what
+-- is found of one scheme, and how its keys are searched.
 pub mod SecondForm
 pub mod Tested
 pub mod Verdicts

@@ -1,4 +1,4 @@
--- Second normal form of a scheme (Codd 1971), and what violates it: for `second_violation`, and for `Tested`.
+-- Second normal form of a scheme (Codd 1971), and what violates it: for `check form 2nf` and `form`.
 use Rattle.std.specs.Prelude.{◌≡◌, ℕ, ◌<◌, false, List}
 use Rattle.attr_sets.specs.Attributes.{Attributes, only, IsSubset, IsBefore}
 use Rattle.dep_model.specs.Dependencies.{Dependency, fd, functional_part}
@@ -14,9 +14,11 @@ IsProperPart n ds scheme x = (k : Attributes) × IsKey n ds scheme k × IsSubset
 abbrev pub IsSecond : ℕ → List Dependency → Attributes → Type 0
 IsSecond n ds scheme =
     (x : Attributes) (a : ℕ) → IsProperPart n (functional_part ds) scheme x
-    → ImpliedOn n (functional_part ds) scheme (fd x (only a)) → x a ≡ false → IsPrime n (functional_part ds) scheme a
+    → ImpliedOn n (functional_part ds) scheme (fd x (only a)) → x a ≡ false
+    → IsPrime n (functional_part ds) scheme a
 
--- x is a proper part of a key, and determines attributes outside it that are in no key; y is the least of them
+-- x is a proper part of a key, and determines attributes outside it that are in no key; y is the least of
+-- them
 pub record ViolatesSecond (n : ℕ) (ds : List Dependency) (scheme x y : Attributes) : Type 0 where
   pub part : IsProperPart n ds scheme x
   pub attribute : ℕ

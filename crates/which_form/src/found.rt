@@ -5,10 +5,9 @@ ghost use Rattle.attr_sets.specs.Sets.{attributes};
 ghost use Rattle.attr_sets.specs.declared.narrowing.Direction.TheVariants as directions;
 ghost use Rattle.dep_model.specs.Dependencies.{functional_part};
 ghost use Rattle.dep_model.specs.Deps.{dependencies_of, IsDepWithin};
-ghost use Rattle.dep_model.specs.Keys.{IsKey};
 ghost use Rattle.dep_model.specs.Theories.{width_of};
-ghost use Rattle.which_form.specs.KeyRanges.{IsKeyRange, functional_of};
-ghost use Rattle.which_form.specs.KeySearches.{AreInNoKey, DeterminesSome, HasAllOf, IsFound, KeepsAll, SaysWhetherDetermines};
+ghost use Rattle.which_form.specs.KeyRanges.{IsKeyIn, IsKeyRange, functional_of};
+ghost use Rattle.which_form.specs.KeySearches.{AreWanted, DeterminesSome, HasAllOf, IsFoundIn, KeepsAllIn, SaysWhetherDetermines};
 
 use crate::ranges::KeyRange;
 use attr_sets::{AttrSet, Direction, narrowed};
@@ -33,17 +32,13 @@ pub fn with_key(
     key: AttrSet,
 ) -> Found
     requires range { IsKeyRange theory.now range }
-    requires wanted { AreInNoKey (width_of theory.now) (functional_of theory.now)
-        (attributes range.scheme) (attributes wanted) }
-    requires found { IsFound (width_of theory.now) (functional_of theory.now)
-        (attributes range.scheme) (attributes wanted) found }
-    requires key { IsKey (width_of theory.now) (functional_of theory.now) (attributes range.scheme)
-        (attributes key) }
-    ensures found { IsFound (width_of theory.now) (functional_of theory.now)
-        (attributes range.scheme) (attributes wanted) result }
-    ensures kept { KeepsAll (width_of theory.now) (functional_of theory.now) (attributes wanted) found result }
-    ensures has_all { HasAllOf (width_of theory.now) (functional_of theory.now) (attributes wanted) result
-        (attributes key) }
+    requires wanted { AreWanted theory.now range wanted }
+    requires found { IsFoundIn theory.now range wanted found }
+    requires key { IsKeyIn theory.now range (attributes key) }
+    ensures found { IsFoundIn theory.now range wanted result }
+    ensures kept { KeepsAllIn theory.now wanted found result }
+    ensures has_all { HasAllOf (width_of theory.now) (functional_of theory.now) (attributes wanted)
+        result (attributes key) }
 {
     let in_keys = found.in_keys.union(key);
     if wanted.is_empty() {
@@ -59,8 +54,8 @@ pub fn with_key(
     Found { in_keys, first }
 }
 
-// The first subset of a set, in the order of sets, that determines one of some attributes, where the set does:
-// each attribute, from the last to the first, is left out if the rest still determines one.
+// The first subset of a set, in the order of sets, that determines one of some attributes, where the set
+// does: each attribute, from the last to the first, is left out if the rest still determines one.
 fn first_determining(deps: &[Dep], wanted: AttrSet, set: AttrSet) -> AttrSet
     ensures narrowed { (n : ℕ) → All (IsDepWithin (below n)) deps.now → IsSubset (attributes set) (below n)
         → IsNarrowed directions.Descending

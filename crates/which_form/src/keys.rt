@@ -1,9 +1,9 @@
 ghost use Rattle.std.specs.Prelude.{◌≡◌, ◌↔◌, ◌<◌, true, IsTrue};
 ghost use Rattle.attr_sets.specs.Attributes.{only, difference, IsSubset};
 ghost use Rattle.attr_sets.specs.Sets.{attributes};
-ghost use Rattle.dep_model.specs.Keys.{IsSuperkey, IsKey};
+ghost use Rattle.dep_model.specs.Keys.{IsSuperkey};
 ghost use Rattle.dep_model.specs.Theories.{width_of, universe_of};
-ghost use Rattle.which_form.specs.KeyRanges.{IsKeyRange, functional_of};
+ghost use Rattle.which_form.specs.KeyRanges.{IsKeyIn, IsKeyRange, IsSuperkeyIn, functional_of};
 
 use crate::ranges::KeyRange;
 use attr_sets::{AttrSet, MOST_ATTRIBUTES};
@@ -13,10 +13,8 @@ use fd_closure::is_functional_superkey;
 // Whether a superkey of a scheme is a key. Only varying attributes can be left out.
 pub fn is_key(theory: &Theory, range: KeyRange, set: AttrSet) -> bool
     requires range { IsKeyRange theory.now range }
-    requires superkey { IsSuperkey (width_of theory.now) (functional_of theory.now)
-        (attributes range.scheme) (attributes set) }
-    ensures key { IsTrue result
-        ↔ IsKey (width_of theory.now) (functional_of theory.now) (attributes range.scheme) (attributes set) }
+    requires superkey { IsSuperkeyIn theory.now range (attributes set) }
+    ensures key { IsTrue result ↔ IsKeyIn theory.now range (attributes set) }
 {
     let tried = set.difference(range.least);
     for i in 0..MOST_ATTRIBUTES {

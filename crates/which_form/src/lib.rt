@@ -11,6 +11,7 @@
 
 mod forms;
 mod found;
+mod fourth;
 mod keys;
 pub mod laws;
 mod ranges;

@@ -4,8 +4,8 @@ ghost use Rattle.attr_sets.specs.Sets.{attributes};
 ghost use Rattle.dep_model.specs.Keys.{IsSuperkey};
 ghost use Rattle.dep_model.specs.Theories.{width_of, universe_of};
 ghost use Rattle.fd_closure.specs.Closures.{IsKnownClosure};
-ghost use Rattle.which_form.specs.KeyRanges.{IsKeyRange, functional_of};
-ghost use Rattle.which_form.specs.KeySearches.{AreInNoKey, HasAllBetween, IsFound, KeepsAll};
+ghost use Rattle.which_form.specs.KeyRanges.{IsKeyRange, IsSuperkeyIn, functional_of};
+ghost use Rattle.which_form.specs.KeySearches.{AreWanted, HasAllIn, IsFoundIn, KeepsAllIn};
 
 use crate::found::{Found, with_key};
 use crate::keys::is_key;
@@ -17,14 +17,10 @@ use fd_closure::{KnownClosure, follows, functional_closure};
 // What is found among all keys of a scheme.
 pub fn search_all_keys(theory: &Theory, range: KeyRange, wanted: AttrSet, found: Found) -> Found
     requires range { IsKeyRange theory.now range }
-    requires wanted { AreInNoKey (width_of theory.now) (functional_of theory.now)
-        (attributes range.scheme) (attributes wanted) }
-    requires found { IsFound (width_of theory.now) (functional_of theory.now)
-        (attributes range.scheme) (attributes wanted) found }
-    ensures found { IsFound (width_of theory.now) (functional_of theory.now)
-        (attributes range.scheme) (attributes wanted) result }
-    ensures has_all { HasAllBetween (width_of theory.now) (functional_of theory.now)
-        (attributes range.scheme) (attributes wanted) (attributes range.least)
+    requires wanted { AreWanted theory.now range wanted }
+    requires found { IsFoundIn theory.now range wanted found }
+    ensures found { IsFoundIn theory.now range wanted result }
+    ensures has_all { HasAllIn theory.now range wanted (attributes range.least)
         (union (attributes range.least) (attributes range.varying)) result }
 {
     let closed = functional_closure(theory.deps(), range.least);
@@ -47,19 +43,15 @@ fn search_keys(
     found: Found,
 ) -> Found
     requires range { IsKeyRange theory.now range }
-    requires wanted { AreInNoKey (width_of theory.now) (functional_of theory.now)
-        (attributes range.scheme) (attributes wanted) }
+    requires wanted { AreWanted theory.now range wanted }
     requires part { IsSubset (attributes part.of) (attributes range.scheme) }
     requires closed { IsKnownClosure (width_of theory.now) (functional_of theory.now) part }
     requires rest { IsSubset (attributes rest) (attributes range.scheme) }
     requires apart { Disjoint (attributes rest) (attributes part.of) }
-    requires found { IsFound (width_of theory.now) (functional_of theory.now)
-        (attributes range.scheme) (attributes wanted) found }
-    ensures found { IsFound (width_of theory.now) (functional_of theory.now)
-        (attributes range.scheme) (attributes wanted) result }
-    ensures kept { KeepsAll (width_of theory.now) (functional_of theory.now) (attributes wanted) found result }
-    ensures has_all { HasAllBetween (width_of theory.now) (functional_of theory.now)
-        (attributes range.scheme) (attributes wanted) (attributes part.of)
+    requires found { IsFoundIn theory.now range wanted found }
+    ensures found { IsFoundIn theory.now range wanted result }
+    ensures kept { KeepsAllIn theory.now wanted found result }
+    ensures has_all { HasAllIn theory.now range wanted (attributes part.of)
         (union (attributes part.of) (attributes rest)) result }
 {
     if range.scheme.is_subset(part.closed) {
@@ -89,17 +81,12 @@ fn with_superkey(
     set: AttrSet,
 ) -> Found
     requires range { IsKeyRange theory.now range }
-    requires wanted { AreInNoKey (width_of theory.now) (functional_of theory.now)
-        (attributes range.scheme) (attributes wanted) }
-    requires found { IsFound (width_of theory.now) (functional_of theory.now)
-        (attributes range.scheme) (attributes wanted) found }
-    requires superkey { IsSuperkey (width_of theory.now) (functional_of theory.now)
-        (attributes range.scheme) (attributes set) }
-    ensures found { IsFound (width_of theory.now) (functional_of theory.now)
-        (attributes range.scheme) (attributes wanted) result }
-    ensures kept { KeepsAll (width_of theory.now) (functional_of theory.now) (attributes wanted) found result }
-    ensures has_all { HasAllBetween (width_of theory.now) (functional_of theory.now)
-        (attributes range.scheme) (attributes wanted) (attributes set) (attributes range.scheme) result }
+    requires wanted { AreWanted theory.now range wanted }
+    requires found { IsFoundIn theory.now range wanted found }
+    requires superkey { IsSuperkeyIn theory.now range (attributes set) }
+    ensures found { IsFoundIn theory.now range wanted result }
+    ensures kept { KeepsAllIn theory.now wanted found result }
+    ensures has_all { HasAllIn theory.now range wanted (attributes set) (attributes range.scheme) result }
 {
     if is_key(theory, range, set) {
         with_key(theory, range, wanted, found, set)
@@ -108,8 +95,8 @@ fn with_superkey(
     }
 }
 
-// Whether it is seen at once that nothing more is to be found among the keys that hold a part, and beside it
-// attributes of a rest alone: there are none, or their attributes are known, and nothing else is wanted.
+// Whether it is seen at once that nothing more is to be found among the keys that hold a part, and beside
+// it attributes of a rest alone: there are none, or their attributes are known, and nothing else is wanted.
 fn has_all_between(
     theory: &Theory,
     range: KeyRange,
@@ -122,8 +109,7 @@ fn has_all_between(
     requires closed { IsKnownClosure (width_of theory.now) (functional_of theory.now) part }
     requires part { IsSubset (attributes part.of) (attributes range.scheme) }
     requires rest { IsSubset (attributes rest) (attributes range.scheme) }
-    ensures has_all { IsTrue result → HasAllBetween (width_of theory.now) (functional_of theory.now)
-        (attributes range.scheme) (attributes wanted) (attributes part.of)
+    ensures has_all { IsTrue result → HasAllIn theory.now range wanted (attributes part.of)
         (union (attributes part.of) (attributes rest)) found }
 {
     if all_is_known(wanted, part.of.union(rest), found) {

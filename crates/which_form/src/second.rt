@@ -4,7 +4,7 @@ ghost use Rattle.attr_sets.specs.Sets.{attributes};
 ghost use Rattle.dep_model.specs.Keys.{IsPrime};
 ghost use Rattle.dep_model.specs.Theories.{width_of, universe_of, theory_of};
 ghost use Rattle.which_form.specs.KeyRanges.{IsKeyRange, functional_of};
-ghost use Rattle.which_form.specs.KeySearches.{AreInNoKey, DeterminesSome, IsLeastDetermined};
+ghost use Rattle.which_form.specs.KeySearches.{AreWanted, DeterminesSome, IsLeastDetermined};
 ghost use Rattle.which_form.specs.SecondForm.{IsSecond, IsFirstInSecond};
 
 use crate::found::Found;
@@ -44,8 +44,7 @@ pub fn second_violation(theory: &Theory, scheme: AttrSet) -> Option<Breach>
 // The attributes of a scheme that are in no key.
 fn attributes_in_no_key(theory: &Theory, range: KeyRange) -> AttrSet
     requires range { IsKeyRange theory.now range }
-    ensures in_no_key { AreInNoKey (width_of theory.now) (functional_of theory.now)
-        (attributes range.scheme) (attributes result) }
+    ensures in_no_key { AreWanted theory.now range result }
     ensures others { (a : ℕ) → attributes range.scheme a ≡ true → attributes result a ≡ false
         → IsPrime (width_of theory.now) (functional_of theory.now) (attributes range.scheme) a }
 {

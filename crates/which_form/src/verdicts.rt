@@ -1,8 +1,7 @@
 ghost use Rattle.std.specs.Prelude.{◌≡◌, ◌↔◌, ℕ, List, Some, IsErr, IsNone, IfOk, IfErr};
 ghost use Rattle.attr_sets.specs.Attributes.{Attributes, IsSubset};
 ghost use Rattle.attr_sets.specs.Sets.{attributes};
-ghost use Rattle.dep_model.specs.Dependencies.{Dependency};
-ghost use Rattle.dep_model.specs.Forms.{IsBcnf};
+ghost use Rattle.dep_model.specs.Dependencies.{Dependency, functional_part};
 ghost use Rattle.dep_model.specs.Theories.{width_of, universe_of, theory_of};
 ghost use Rattle.dep_model.specs.declared.form.Form.TheVariants as normal;
 ghost use Rattle.fd_closure.specs.LeftSides.{IsWideScheme};
@@ -10,15 +9,52 @@ ghost use Rattle.which_form.specs.Verdicts.{AreVerdicts, IsLastForm, IsVerdict};
 ghost use Rattle.which_form.specs.declared.forms.TestedForm.TheVariants as tested;
 
 use crate::forms::{SchemeForms, TestedForm};
+use crate::fourth::fourth_beside;
 use crate::second::second_violation;
 use attr_sets::AttrSet;
 use dep_model::{Form, Theory};
 use fd_closure::is_functional;
 use normal_forms::{Breach, TooWide, violation};
 
-/// What violates each of the forms on a scheme, as `tested_violation` finds it. Where a form gives the one
-/// before it, that is not tested once more.
+/// What violates each of the forms on a scheme, as `tested_violation` finds it. Where a form gives another,
+/// that is not tested once more.
 pub fn scheme_forms(theory: &Theory, scheme: AttrSet) -> Result<SchemeForms, TooWide>
+    requires scheme { IsSubset (attributes scheme) (universe_of theory.now) }
+    ensures too_wide { IsErr result ↔ IsWideScheme (theory_of theory.now) (attributes scheme) }
+    ensures scheme { IfErr result (λ refusal. refusal.scheme ≡ scheme) }
+    ensures forms { IfOk result
+        (AreVerdicts (width_of theory.now) (theory_of theory.now) (attributes scheme)) }
+{
+    if is_functional(theory.deps()) {
+        functional_forms(theory, scheme)
+    } else {
+        mixed_forms(theory, scheme)
+    }
+}
+
+// The same where all dependencies are functional. Then one left side violates Boyce-Codd and fourth form.
+fn functional_forms(theory: &Theory, scheme: AttrSet) -> Result<SchemeForms, TooWide>
+    requires scheme { IsSubset (attributes scheme) (universe_of theory.now) }
+    requires functional { functional_part (theory_of theory.now) ≡ theory_of theory.now }
+    ensures too_wide { IsErr result ↔ IsWideScheme (theory_of theory.now) (attributes scheme) }
+    ensures scheme { IfErr result (λ refusal. refusal.scheme ≡ scheme) }
+    ensures forms { IfOk result
+        (AreVerdicts (width_of theory.now) (theory_of theory.now) (attributes scheme)) }
+{
+    let bcnf = violation(theory, scheme, Form::Bcnf)?;
+    let fourth = fourth_beside(theory, scheme, bcnf);
+    let third = third_below(theory, scheme, bcnf)?;
+    let second = second_below(theory, scheme, third);
+    Ok(SchemeForms {
+        second,
+        third,
+        bcnf,
+        fourth,
+    })
+}
+
+// The same where a multivalued dependency may be given.
+fn mixed_forms(theory: &Theory, scheme: AttrSet) -> Result<SchemeForms, TooWide>
     requires scheme { IsSubset (attributes scheme) (universe_of theory.now) }
     ensures too_wide { IsErr result ↔ IsWideScheme (theory_of theory.now) (attributes scheme) }
     ensures scheme { IfErr result (λ refusal. refusal.scheme ≡ scheme) }
@@ -27,7 +63,7 @@ pub fn scheme_forms(theory: &Theory, scheme: AttrSet) -> Result<SchemeForms, Too
 {
     let fourth = violation(theory, scheme, Form::Fourth)?;
     let bcnf = bcnf_below(theory, scheme, fourth)?;
-    let third = third_below(theory, scheme, bcnf)?;
+    let third = violation(theory, scheme, Form::Third)?;
     let second = second_below(theory, scheme, third);
     Ok(SchemeForms {
         second,
@@ -58,13 +94,14 @@ fn bcnf_below(
     }
 }
 
-// The violation of third form, where that of Boyce-Codd form is known.
+// The violation of third form, where all dependencies are functional and that of Boyce-Codd form is known.
 fn third_below(
     theory: &Theory,
     scheme: AttrSet,
     bcnf: Option<Breach>,
 ) -> Result<Option<Breach>, TooWide>
     requires scheme { IsSubset (attributes scheme) (universe_of theory.now) }
+    requires functional { functional_part (theory_of theory.now) ≡ theory_of theory.now }
     requires bcnf { IsVerdict (width_of theory.now) (theory_of theory.now) (attributes scheme)
         (tested.Higher normal.Bcnf) bcnf }
     ensures too_wide { IsErr result → IsWideScheme (theory_of theory.now) (attributes scheme) }
@@ -75,25 +112,8 @@ fn third_below(
 {
     match bcnf {
         Some(_) => violation(theory, scheme, Form::Third),
-        None => third_in_bcnf(theory, scheme),
+        None => Ok(None),
     }
-}
-
-// The violation of third form on a scheme in Boyce-Codd form, of which there is none without multivalued
-// dependencies.
-fn third_in_bcnf(theory: &Theory, scheme: AttrSet) -> Result<Option<Breach>, TooWide>
-    requires scheme { IsSubset (attributes scheme) (universe_of theory.now) }
-    requires bcnf { IsBcnf (width_of theory.now) (theory_of theory.now) (attributes scheme) }
-    ensures too_wide { IsErr result → IsWideScheme (theory_of theory.now) (attributes scheme) }
-    ensures scheme { IfErr result (λ refusal. refusal.scheme ≡ scheme) }
-    ensures verdict { IfOk result
-        (IsVerdict (width_of theory.now) (theory_of theory.now) (attributes scheme)
-        (tested.Higher normal.Third)) }
-{
-    if is_functional(theory.deps()) {
-        return Ok(None);
-    }
-    violation(theory, scheme, Form::Third)
 }
 
 // The violation of second form, where that of third form is known.
