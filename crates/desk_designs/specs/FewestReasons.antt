@@ -19,14 +19,13 @@ use Rattle.desk_designs.specs.LeftOut.{left_out_text}
 use Rattle.desk_designs.specs.SynthesisReasons.{cover_text, key_text, synthesis_text}
 use Rattle.desk_texts.specs.Texts.{line}
 
--- sets that come after others in a line
-abbrev pub more_sets : List (List ℕ) → List Attributes → List ℕ
-more_sets names sets = flat_map (λ x. codes " and " ++ set_text names x) sets
-
 -- sets with ` and ` between them
+abbrev pub next_set : List (List ℕ) → Attributes → List ℕ
+next_set names x = codes " and " ++ set_text names x
+
 abbrev pub joined_sets : List (List ℕ) → List Attributes → List ℕ
 joined_sets names [] = []
-joined_sets names (x ∷ more) = set_text names x ++ more_sets names more
+joined_sets names (x ∷ more) = set_text names x ++ flat_map (next_set names) more
 
 -- a line for a group of two left sides or more
 abbrev pub alike_text : List (List ℕ) → List Attributes → List ℕ

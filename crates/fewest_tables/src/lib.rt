@@ -16,7 +16,7 @@ mod merging;
 mod steps;
 mod thinning;
 
-pub use fewest::{fewest_plan, has_fewer, merged_plan};
+pub use fewest::{fewest_plan, merged_plan, smaller_plan};
 pub use grouping::{Grouping, group_with};
 pub use merging::{is_among, merged_scheme};
 pub use steps::{FewestSteps, fewest_steps};

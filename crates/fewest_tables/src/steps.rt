@@ -68,7 +68,7 @@ fn steps_from(
 {
     let groups = grouping(alloc, theory, &plain.lefts)?;
     let kept = kept_members(alloc, theory, &groups, &plain.cover)?;
-    let merged = merged_schemes(alloc, &kept, &groups)?;
+    let merged = merged_schemes(alloc, &kept, &groups.lefts, &groups.firsts)?;
     let schemes = with_key(theory, nullable, merged)?;
     Ok(FewestSteps {
         plain,
@@ -92,6 +92,6 @@ fn kept_members(
         (all_exchanges (groups_in groups.now)) (dependencies_of cover.now)
         (all_exchanges (groups_in groups.now) ++ dependencies_of kept.items)) }
 {
-    let rules = shared_exchanges(alloc, groups)?;
+    let rules = shared_exchanges(alloc, &groups.lefts, &groups.firsts)?;
     kept_beside(alloc, theory.width(), rules, cover)
 }
