@@ -1,6 +1,7 @@
 pub mod LossLemmas
 pub mod SplitLemmas
 pub mod MissingLemmas
+mod FewestTexts
 mod ShownLosses
 mod ShownFirst
 pub mod StatusLemmas

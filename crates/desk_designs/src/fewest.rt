@@ -9,8 +9,8 @@ use plan_printer::print_plan;
 use schema_model::Schema;
 use std::alloc::Global;
 
-/// A plan in third normal form that loses nothing and keeps the functional dependencies, in which left sides that
-/// determine each other share a scheme.
+/// A plan in third normal form that loses nothing and keeps the functional dependencies, in which
+/// left sides that determine each other share a scheme.
 pub fn synthesize_fewest(alloc: Global, schema: &Schema) -> Result<Response, EarlyExit>
     ensures response { RespondsAs (SynthesizesFewest schema.now) result }
 {

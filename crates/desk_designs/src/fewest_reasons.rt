@@ -30,9 +30,10 @@ use schema_printer::{add_dep, add_set};
 use std::alloc::Global;
 use synthesis_3nf::{SynthesisSteps, plan_of_steps};
 
-/// The plan with the fewest schemes, below how it comes about: the cover, which left sides determine each other,
-/// which members follow from that and from the others, the schemes of the groups, which of them are left out, and
-/// the key that is added; and where `synthesize` has fewer schemes, how its plan comes about.
+/// The plan with the fewest schemes, below how it comes about: the cover, which left sides
+/// determine each other, which members follow from that and from the others, the schemes of the
+/// groups, which of them are left out, and the key that is added; and where `synthesize` has fewer
+/// schemes, how its plan comes about.
 pub fn explain_fewest(alloc: Global, schema: &Schema) -> Result<Response, EarlyExit>
     ensures response { RespondsAs (ExplainsFewest schema.now) result }
 {
@@ -48,7 +49,8 @@ fn explained_fewest(alloc: Global, schema: &Schema) -> Result<Response, OutOfMem
     let plain = plan_of_steps(alloc, &theory, &steps.plain)?;
     let mut text = print_reasons_of(alloc, schema, &steps, merged.schemes(), plain.schemes())?;
     let plan = smaller_plan(merged, plain);
-    add(&mut text, &print_plan(alloc, schema, &plan)?)?;
+    let printed = print_plan(alloc, schema, &plan)?;
+    add(&mut text, &printed)?;
     Ok(Response::with_text(Status::Yes, text))
 }
 

@@ -5,4 +5,4 @@ pub mod ThinnedLemmas
 pub mod MergedLemmas
 pub mod FewestLemmas
 pub mod MadeLemmas
-mod LoopLemmas
+pub mod LoopLemmas

@@ -33,34 +33,29 @@ closure_known s deps same x c low closure =
     (closure n (subst (λ (es : List Dep). All (IsDepWithin (below n)) es) (sym same) s.valid.deps_within) low)
 
 -- ---- one element more
-pub flat_map_more : {X Y : Type 0} (f : X → List Y) (xs : List X) (i : ℕ) (d : X) → i < length xs → flat_map f (take (i + 1) xs) ≡ flat_map f (take i xs) ++ f (get_or xs i d)
-flat_map_more {X} {Y} f xs i d lt =
-    let x = get_or xs i d in
-    ap (λ (l : List X). flat_map f l) (take_more xs i d lt)
-    ∙ flat_map-append f (take i xs) (x ∷ [])
-    ∙ ap (λ (l : List Y). flat_map f (take i xs) ++ l) (append-nil (f x))
-
--- a list that grows by what is made of each element
-pub grown : {X Y : Type 0} (f : X → List Y) (xs : List X) (i : ℕ) (d : X) (start old new : List Y) → i < length xs → old ≡ start ++ flat_map f (take i xs) → new ≡ old ++ f (get_or xs i d)
-    → new ≡ start ++ flat_map f (take (i + 1) xs)
-grown {X} {Y} f xs i d start old new lt before step =
-    let this = f (get_or xs i d) in
-    step
-    ∙ ap (λ (l : List Y). l ++ this) before
-    ∙ append_assoc start (flat_map f (take i xs)) this
-    ∙ ap (λ (l : List Y). start ++ l) (sym (flat_map_more f xs i d lt))
+-- of what is made of each element
+pub mapped_more : {X Y Z : Type 0} (f : Y → List Z) (make : X → Y) (xs : List X) (i : ℕ) (d : X) → i < length xs
+    → flat_map f (map make (take (i + 1) xs)) ≡ flat_map f (map make (take i xs)) ++ f (make (get_or xs i d))
+mapped_more {X} {Y} {Z} f make xs i d lt =
+    let y = make (get_or xs i d) in
+    let before = map make (take i xs) in
+    ap (λ (l : List Y). flat_map f l) (map_more make xs i d lt)
+    ∙ flat_map-append f before (y ∷ [])
+    ∙ ap (λ (l : List Z). flat_map f before ++ l) (append-nil (f y))
 
 -- a set that grows by what is made of each element
-pub any_more : {X : Type 0} (p : X → Attributes) (xs : List X) (i : ℕ) (d : X) (old new : Attributes) → i < length xs → old ≡ (λ k. list_any (λ x. p x k) (take i xs))
-    → new ≡ (λ k. old k || p (get_or xs i d) k) → new ≡ (λ k. list_any (λ x. p x k) (take (i + 1) xs))
-any_more {X = X} p xs i d old new lt before step = fun_ext (λ k.
-    let test : X → Bool = λ x. p x k in
-    let here = test (get_or xs i d) in
+pub any_mapped_more : {X Y : Type 0} (p : Y → Attributes) (make : X → Y) (xs : List X) (i : ℕ) (d : X) (old new : Attributes) → i < length xs
+    → old ≡ (λ k. list_any (λ y. p y k) (map make (take i xs))) → new ≡ (λ k. old k || p (make (get_or xs i d)) k)
+    → new ≡ (λ k. list_any (λ y. p y k) (map make (take (i + 1) xs)))
+any_mapped_more {X} {Y} p make xs i d old new lt before step = fun_ext (λ k.
+    let test : Y → Bool = λ y. p y k in
+    let y = make (get_or xs i d) in
+    let done = map make (take i xs) in
     same_at step k
-    ∙ ap (λ (b : Bool). b || here) (same_at before k)
-    ∙ ap (λ (b : Bool). list_any test (take i xs) || b) (sym (or-false here))
-    ∙ sym (list_any-append test (take i xs) (get_or xs i d ∷ []))
-    ∙ ap (λ (l : List X). list_any test l) (sym (take_more xs i d lt)))
+    ∙ ap (λ (b : Bool). b || test y) (same_at before k)
+    ∙ ap (λ (b : Bool). list_any test done || b) (sym (or-false (test y)))
+    ∙ sym (list_any-append test done (y ∷ []))
+    ∙ ap (λ (l : List Y). list_any test l) (sym (map_more make xs i d lt)))
 
 -- ---- the first ones
 abbrev pub AreFirstsTo : List KnownClosure → List KnownClosure → ℕ → Type 0

@@ -1,14 +1,15 @@
 -- The groups, the members that are kept and the plan that the code makes of a theory.
-use Rattle.std.proofs.Common.{◌≡◌, ℕ, ◌≤◌, ◌<◌, true, List, [], ◌∷◌, ◌++◌, map, length, sym, subst, ap, ◌∙◌}
+use Rattle.std.proofs.Common.{◌≡◌, ℕ, ◌≤◌, ◌⊎◌, Bool, true, nat_lt, if◌then◌else◌, List, [], ◌++◌, map, length, sym, subst, ap, inl, inr, arith}
 use Rattle.std.specs.Prelude.{All, Contains}
-use Rattle.std.specs.List.{list_any}
+use Rattle.std.specs.List.{list_any, flat_map}
+use Rattle.std.proofs.lemmas.Bool.{cases_Bool, ltb-false}
 use Rattle.std.proofs.lemmas.List.Elements.{All-contains, All-contains_itself, All-filter, All-weaker, filter_passes}
 use Rattle.attr_sets.specs.Attributes.{Attributes, below, IsSubset}
 use Rattle.attr_sets.specs.Sets.{attributes}
 use Rattle.attr_sets.specs.declared.set.AttrSet.{AttrSet}
 use Rattle.dep_model.specs.declared.dep.Dep.{Dep}
 use Rattle.dep_model.specs.Dependencies.{Dependency, is_fd, functional_part, IsWithin}
-use Rattle.dep_model.specs.Deps.{dependencies_of, IsDepWithin}
+use Rattle.dep_model.specs.Deps.{dependency_of, dependencies_of, IsDepWithin}
 use Rattle.dep_model.specs.Forms.{IsThird}
 use Rattle.dep_model.specs.Plans.{IsPlan, schemes_of}
 use Rattle.dep_model.specs.Preservation.{KeepsDependencies}
@@ -20,19 +21,23 @@ use Rattle.fd_closure.specs.Closures.{IsKnownClosure}
 use Rattle.fd_closure.specs.declared.known.KnownClosure.{KnownClosure}
 use Rattle.min_cover.specs.Covers.{IsMinimalCover, IsThinned}
 use Rattle.min_cover.proofs.CoverLemmas.{fixed_is_minimal}
-use Rattle.plans.specs.Containing.{lies_within}
+use Rattle.plans.specs.Containing.{lies_within, without_contained}
+use Rattle.plans.specs.declared.plan.Plan.{Plan}
+use Rattle.synthesis_3nf.specs.GroupedPlans.{IsGroupedPlan}
 use Rattle.synthesis_3nf.specs.Groups.{left_sides_after}
 use Rattle.synthesis_3nf.proofs.CompleteLemmas.{AreThirdSchemes, IsSynthesized, are_lossless, are_plan, kept_keeps, kept_third, whole}
 use Rattle.synthesis_3nf.proofs.GroupSchemes.{AreRules}
 use Rattle.synthesis_3nf.proofs.ThirdLemmas.{functional_same}
 use Rattle.synthesis_3nf.proofs.WithinLemmas.{cover_within}
 use Rattle.fewest_tables.specs.Alike.{AreGroups, all_exchanges, firsts_after}
-use Rattle.fewest_tables.specs.FewestSteps.{group_with, same_closure, set_of, sets_of}
+use Rattle.fewest_tables.specs.FewestSteps.{AreFewestSteps, group_with, groups_in, same_closure, set_of, sets_of, shared_exchanges}
+use Rattle.fewest_tables.specs.declared.steps.FewestSteps.{FewestSteps}
 use Rattle.fewest_tables.specs.KeyedDesigns.{AreFewest}
-use Rattle.fewest_tables.specs.MergedPlans.{AreMergedSteps, merged_scheme}
+use Rattle.fewest_tables.specs.MergedPlans.{AreMergedSteps, IsFewestPlan, merged_scheme, smaller}
 use Rattle.fewest_tables.proofs.AlikeLemmas.{IsGrouped, grouped_by_closures, groups_are}
-use Rattle.fewest_tables.proofs.ExchangeLemmas.{AreLow}
+use Rattle.fewest_tables.proofs.ExchangeLemmas.{AreLow, shared_same, shared_within}
 use Rattle.fewest_tables.proofs.FewestLemmas.{fewest_groups}
+use Rattle.fewest_tables.proofs.ThinnedLemmas.{thinned_beside}
 use Rattle.fewest_tables.proofs.MergedLemmas.{groups_low, left_sides_low, merged_rules, merged_schemes_are}
 
 -- ---- the dependencies of a theory
@@ -123,3 +128,55 @@ merged_low s cover groups kept schemes minimal within are thinned same =
     let low = (merged_schemes_are (width_of s) (theory_of s) cover s.valid.within_limit minimal within groups grouped kept thinned).within in
     All-members (λ (scheme : AttrSet). IsSubset (attributes scheme) (below (width_of s))) schemes (λ scheme has.
     low (attributes scheme) (subst (λ (l : List Attributes). Contains l (attributes scheme)) same (Contains-map attributes schemes scheme has)))
+
+-- ---- the smaller one of two plans
+pub smaller_no_more : (first second : List AttrSet) → length (smaller first second) ≤ length second
+smaller_no_more first second =
+    let chosen : Bool → List AttrSet = λ b. if b then second else first in
+    elim (cases_Bool (nat_lt (length second) (length first))) [
+      | inl less ↦ omega (arith, ap (λ (l : List AttrSet). length l) (ap chosen less))
+      | inr other ↦ omega (arith, ltb-false (length second) (length first) other, ap (λ (l : List AttrSet). length l) (ap chosen other))
+    ]
+
+-- what both have it has
+pub chosen_has : (P : Plan → Type 0) (first second result : Plan) → (result ≡ first) ⊎ (result ≡ second) → P first → P second → P result
+chosen_has P first second result (inl is) one other = subst P (sym is) one
+chosen_has P first second result (inr is) one other = subst P (sym is) other
+
+-- the plan of the steps
+pub plan_made : (n : ℕ) (ds : List Dependency) (nullable : Attributes) (steps : FewestSteps) (merged grouped plan : List AttrSet) → AreFewestSteps n ds nullable steps
+    → merged ≡ without_contained steps.schemes.items → IsGroupedPlan n ds nullable grouped → plan ≡ smaller merged grouped → IsFewestPlan n ds nullable plan
+plan_made n ds nullable steps merged grouped plan are left is_grouped chosen = record {
+  merged = merged;
+  is_merged = record {
+    cover = dependencies_of steps.plain.cover.items;
+    groups = groups_in steps.groups;
+    kept = dependencies_of steps.kept.items;
+    all = steps.schemes.items;
+    steps = are.merged;
+    left = left;
+  };
+  grouped = grouped;
+  is_grouped = is_grouped;
+  chosen = chosen;
+}
+
+-- the groups of any such plan are the fewest
+pub plan_fewest : (s : Theory) (nullable : Attributes) (plan : List AttrSet) (is : IsFewestPlan (width_of s) (theory_of s) nullable plan) → AreFewest (width_of s) (theory_of s) is.is_merged.groups
+plan_fewest s nullable plan is =
+    steps_fewest s nullable is.is_merged.cover is.is_merged.groups is.is_merged.kept (schemes_of is.is_merged.all) is.is_merged.steps
+
+-- ---- what is alike, as the code says it
+pub shared_deps_within : (s : Theory) (groups : List (List Attributes)) (rules : List Dep) → AreLow (width_of s) groups → dependencies_of rules ≡ flat_map shared_exchanges groups
+    → All (IsDepWithin (below (width_of s))) rules
+shared_deps_within s groups rules low are =
+    let n = width_of s in
+    let each = subst (λ (l : List Dependency). All (IsWithin (below n)) l) (sym are) (shared_within n s.valid.within_limit groups low) in
+    All-members (IsDepWithin (below n)) rules (λ d has. All-contains (IsWithin (below n)) (dependencies_of rules) (dependency_of d) each (Contains-map dependency_of rules d has))
+
+pub kept_by_shared : (s : Theory) (groups : List (List Attributes)) (rules cover kept : List Dependency) → AreLow (width_of s) groups → rules ≡ flat_map shared_exchanges groups
+    → IsThinned (width_of s) rules cover (rules ++ kept) → IsThinned (width_of s) (all_exchanges groups) cover (all_exchanges groups ++ kept)
+kept_by_shared s groups rules cover kept low are thinned =
+    let n = width_of s in
+    thinned_beside n (flat_map shared_exchanges groups) (all_exchanges groups) cover kept (shared_same n s.valid.within_limit groups low)
+    (subst (λ (l : List Dependency). IsThinned n l cover (l ++ kept)) are thinned)

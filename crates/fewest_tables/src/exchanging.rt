@@ -11,8 +11,8 @@ use dep_model::{Dep, OutOfMemory};
 use fd_closure::KnownClosure;
 use std::alloc::Global;
 
-// What is alike, said by as many dependencies as there are left sides: each determines all of its group. That each
-// determines each other one says the same, by as many as there are pairs.
+// What is alike, said by as many dependencies as there are left sides: each determines all of its
+// group. That each determines each other one says the same, by as many as there are pairs.
 pub fn shared_exchanges(
     alloc: Global,
     lefts: &[KnownClosure],

@@ -18,8 +18,8 @@ use plans::{Plan, drop_contained};
 use std::alloc::Global;
 use synthesis_3nf::plan_of_steps;
 
-/// A lossless plan of schemes in third normal form that keeps the functional dependencies of a schema: that of
-/// `merged_plan`, or that of `synthesize` where it has fewer schemes.
+/// A lossless plan of schemes in third normal form that keeps the functional dependencies of a
+/// schema: that of `merged_plan`, or that of `synthesize` where it has fewer schemes.
 pub fn fewest_plan(alloc: Global, theory: &Theory, nullable: AttrSet) -> Result<Plan, OutOfMemory>
     ensures universe { IfOk result (IsPlanOver theory.now) }
     ensures made { IfOk result (λ plan. IsFewestPlan (width_of theory.now) (theory_of theory.now)

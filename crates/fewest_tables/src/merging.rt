@@ -44,8 +44,8 @@ fn scheme_with(
     Ok(merged_scheme(deps, &group))
 }
 
-/// The scheme of a group of left sides: these, with all that the dependencies of the list with one of them
-/// determine.
+/// The scheme of a group of left sides: these, with all that the dependencies of the list with one
+/// of them determine.
 pub fn merged_scheme(deps: &[Dep], group: &[AttrSet]) -> AttrSet
     ensures scheme { attributes result ≡ merged_scheme (dependencies_of deps.now) (schemes_of group.now) }
 {
