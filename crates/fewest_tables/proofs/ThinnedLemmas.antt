@@ -1,9 +1,12 @@
 -- A cover that is thinned beside rules which stay: what is left are members of it, none of which follows from the others;
 -- and other rules that say the same leave the same members.
-use Rattle.std.proofs.Common.{◌≡◌, ℕ, ◌≤◌, List, [], ◌∷◌, ◌++◌, length, refl, sym, subst, ap, ◌∙◌, inl, inr, ⊎_elim, arith, append-nil, append_assoc, length-append}
+use Rattle.std.proofs.Common.{◌≡◌, ℕ, ◌≤◌, List, [], ◌∷◌, ◌++◌, length, take, drop, sym, subst, ap, ◌∙◌, inl, inr, ⊎_elim, arith, append-nil, append_assoc, length-append}
 use Rattle.std.specs.Prelude.{All, Contains}
-use Rattle.std.proofs.lemmas.List.{append_cancel_left}
+use Rattle.std.proofs.Math.Seq.{take-append_seam, drop-append_seam}
+use Rattle.std.proofs.lemmas.List.{append_cancel_left, drop-map, length-map}
 use Rattle.std.proofs.lemmas.List.Elements.{All-nil, All-cons, All-head, All-tail, All-append}
+use Rattle.dep_model.specs.declared.dep.Dep.{Dep}
+use Rattle.dep_model.specs.Deps.{dependency_of, dependencies_of}
 use Rattle.dep_model.specs.Tuples.{Relation}
 use Rattle.dep_model.specs.Dependencies.{Dependency, Obeys}
 use Rattle.dep_model.specs.Implication.{IsLegal, Implies}
@@ -87,3 +90,31 @@ pub thinned_beside : (n : ℕ) (es fs ds left : List Dependency) → HaveSameLeg
 thinned_beside n es fs ds left same thinned =
     subst (λ (l : List Dependency). IsThinned n l ds (fs ++ left)) (append-nil fs)
     (thinned_with n es fs [] ds left same (subst (λ (l : List Dependency). IsThinned n l ds (es ++ left)) (sym (append-nil es)) thinned))
+
+-- ---- lists of the code
+module _ (n from : ℕ) (rules cover others left : List Dep) (long : from ≡ length rules) (joined : others ≡ rules ++ cover)
+    (thinned : IsThinned n (dependencies_of (take from others)) (dependencies_of (drop from others)) (dependencies_of left)) where
+  thinned_parts : IsThinned n (dependencies_of rules) (dependencies_of cover) (dependencies_of left)
+  thinned_parts =
+      let front : take from others ≡ rules = ap (λ (k : ℕ). take k others) long ∙ ap (λ (l : List Dep). take (length rules) l) joined ∙ take-append_seam rules cover in
+      let rest : drop from others ≡ cover = ap (λ (k : ℕ). drop k others) long ∙ ap (λ (l : List Dep). drop (length rules) l) joined ∙ drop-append_seam rules cover in
+      subst (λ (l : List Dep). IsThinned n (dependencies_of l) (dependencies_of cover) (dependencies_of left)) front
+      (subst (λ (l : List Dep). IsThinned n (dependencies_of (take from others)) (dependencies_of l) (dependencies_of left)) rest thinned)
+
+  -- the rules still stand first
+  pub left_fits : from ≤ length left
+  left_fits = omega (arith, long, rules_fit n (dependencies_of rules) (dependencies_of cover) (dependencies_of left) thinned_parts, length-map rules dependency_of, length-map left dependency_of)
+
+  -- and what stands after them is kept
+  pub kept_after : (kept : List Dep) → kept ≡ drop from left → IsThinned n (dependencies_of rules) (dependencies_of cover) (dependencies_of rules ++ dependencies_of kept)
+  kept_after kept is =
+      let found = rules_first n (dependencies_of rules) (dependencies_of cover) (dependencies_of left) thinned_parts in
+      let count : from ≡ length (dependencies_of rules) = long ∙ sym (length-map rules dependency_of) in
+      let same : dependencies_of kept ≡ found.0 =
+      ap (λ (l : List Dep). dependencies_of l) is
+      ∙ sym (drop-map dependency_of from left)
+      ∙ ap (λ (l : List Dependency). drop from l) found.1
+      ∙ ap (λ (k : ℕ). drop k (dependencies_of rules ++ found.0)) count
+      ∙ drop-append_seam (dependencies_of rules) found.0 in
+      subst (λ (l : List Dependency). IsThinned n (dependencies_of rules) (dependencies_of cover) l)
+      (found.1 ∙ ap (λ (l : List Dependency). dependencies_of rules ++ l) (sym same)) thinned_parts
