@@ -2,6 +2,7 @@ pub mod LossLemmas
 pub mod SplitLemmas
 pub mod MissingLemmas
 mod FewestTexts
+mod FewestMade
 mod ShownLosses
 mod ShownFirst
 pub mod StatusLemmas
