@@ -19,14 +19,13 @@ use Rattle.desk_designs.specs.LeftOut.{left_out_text}
 use Rattle.desk_designs.specs.SynthesisReasons.{cover_text, key_text, synthesis_text}
 use Rattle.desk_texts.specs.Texts.{line}
 
--- sets that come after others in a line
-abbrev pub more_sets : List (List ℕ) → List Attributes → List ℕ
-more_sets names sets = flat_map (λ x. codes " and " ++ set_text names x) sets
-
 -- sets with ` and ` between them
+abbrev pub next_set : List (List ℕ) → Attributes → List ℕ
+next_set names x = codes " and " ++ set_text names x
+
 abbrev pub joined_sets : List (List ℕ) → List Attributes → List ℕ
 joined_sets names [] = []
-joined_sets names (x ∷ more) = set_text names x ++ more_sets names more
+joined_sets names (x ∷ more) = set_text names x ++ flat_map (next_set names) more
 
 -- a line for a group of two left sides or more
 abbrev pub alike_text : List (List ℕ) → List Attributes → List ℕ
@@ -36,7 +35,8 @@ alike_text names group =
 -- a line for a member of the cover that is left out
 abbrev pub following_text : List (List ℕ) → Dependency → List ℕ
 following_text names d =
-    line (codes "# cover: " ++ dependency_text names d ++ codes " follows from the others and from what is alike")
+    line (codes "# cover: " ++ dependency_text names d
+    ++ codes " follows from the others and from what is alike")
 
 -- a line for each group, with its scheme
 abbrev pub left_sides_word : List Attributes → List ℕ
@@ -47,10 +47,10 @@ merged_text names kept group =
     line (left_sides_word group ++ joined_sets names group ++ codes ": scheme "
     ++ set_text names (merged_scheme kept group))
 
--- the cover, what is alike, which members are left out, the schemes of the groups, which of all schemes are left out, and
--- the key
-abbrev pub merging_text : List (List ℕ) → List Dependency → List (List Attributes) → List Dependency → List AttrSet
-    → List ℕ
+-- the cover, what is alike, which members are left out, the schemes of the groups, which of all
+-- schemes are left out, and the key
+abbrev pub merging_text : List (List ℕ) → List Dependency → List (List Attributes)
+    → List Dependency → List AttrSet → List ℕ
 merging_text names cover groups kept all =
     cover_text names cover
     ++ flat_map (alike_text names) groups
@@ -72,9 +72,11 @@ pub record AreFewestReasons (schema : Schema) (text : List ℕ) : Type 0 where
   pub groups : List (List Attributes)
   pub kept : List Dependency
   pub all : List AttrSet
-  pub steps : AreMergedSteps (width_of schema) (theory_of schema) (nullable_of schema) cover groups kept (schemes_of all)
+  pub steps : AreMergedSteps (width_of schema) (theory_of schema) (nullable_of schema) cover groups
+      kept (schemes_of all)
   pub grouped : List AttrSet
-  pub plain : AreSynthesisSteps (width_of schema) (theory_of schema) (nullable_of schema) cover (schemes_of grouped)
+  pub plain : AreSynthesisSteps (width_of schema) (theory_of schema) (nullable_of schema) cover
+      (schemes_of grouped)
   pub reads : text ≡ merging_text (printed_names_of schema) cover groups kept all
       ++ fewer_text (printed_names_of schema) cover all grouped
 

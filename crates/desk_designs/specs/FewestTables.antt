@@ -1,5 +1,5 @@
--- A decomposition in third normal form with as few schemes as left sides that determine each other allow: for
--- `synthesize fewest`.
+-- A decomposition in third normal form with as few schemes as left sides that determine each other
+-- allow: for `synthesize fewest`.
 use Rattle.std.specs.Prelude.{ℕ, ◌≤◌, List, All, length}
 use Rattle.attr_sets.specs.declared.set.AttrSet.{AttrSet}
 use Rattle.dep_model.specs.Forms.{IsThird}
@@ -15,9 +15,10 @@ use Rattle.fewest_tables.specs.MergedPlans.{IsFewestPlan}
 use Rattle.desk_responses.specs.declared.status.Status.TheVariants.{Yes}
 use Rattle.desk_responses.specs.ResponseValues.{Allowed, Says}
 
--- the merged groups of the cover, or the groups of `synthesize` where these are fewer schemes: no legal relation loses by
--- it, each scheme is in third normal form for every left side within it, and it keeps the functional dependencies; no
--- design whose keys state these has fewer schemes than there are groups, and `synthesize` has none less than it
+-- the merged groups of the cover, or the groups of `synthesize` where these are fewer schemes: no
+-- legal relation loses by it, each scheme is in third normal form for every left side within it,
+-- and it keeps the functional dependencies; no design whose keys state these has fewer schemes than
+-- there are groups, and `synthesize` has none less than it
 pub record IsFewestTables (schema : Schema) (plan : List AttrSet) : Type 0 where
   pub made : IsFewestPlan (width_of schema) (theory_of schema) (nullable_of schema) plan
   pub lossless : IsLossless (width_of schema) (theory_of schema) (schemes_of plan)

@@ -22,7 +22,8 @@ firsts_after alike earlier (x ∷ later) =
     if list_any (λ y. alike y x) earlier then firsts_after alike earlier later
     else x ∷ firsts_after alike (earlier ++ x ∷ []) later
 
--- the groups of a list: for each set that is alike with none before it, all that are alike with it, in order
+-- the groups of a list: for each set that is alike with none before it, all that are alike with it,
+-- in order
 abbrev pub groups_of : (Attributes → Attributes → Bool) → List Attributes → List (List Attributes)
 groups_of alike xs = map (λ x. filter (alike x) xs) (firsts_after alike [] xs)
 

@@ -1,5 +1,5 @@
--- The steps to a merged plan, as the code has them: for `fewest_steps`, and what is made of them. `Desk` does not cite
--- it.
+-- The steps to a merged plan, as the code has them: for `fewest_steps`, and what is made of them.
+-- `Desk` does not cite it.
 use Rattle.std.specs.Prelude.{◌≡◌, ℕ, Bool, if◌then◌else◌, List, [], ◌∷◌, map, filter, All}
 use Rattle.std.specs.List.{list_any, flat_map}
 use Rattle.attr_sets.specs.Attributes.{Attributes, below}

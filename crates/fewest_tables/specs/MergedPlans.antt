@@ -1,5 +1,6 @@
--- The decomposition in third normal form with one scheme for all left sides that determine each other, and how it
--- comes about: for the command `synthesize fewest` (`desk_designs/FewestTables`) and its explanation.
+-- The decomposition in third normal form with one scheme for all left sides that determine each
+-- other, and how it comes about: for the command `synthesize fewest` (`desk_designs/FewestTables`)
+-- and its explanation.
 use Rattle.std.specs.Prelude.{◌≡◌, ℕ, Bool, not, ◌&&◌, nat_lt, if◌then◌else◌, List, [], ◌++◌, map, filter, length}
 use Rattle.std.specs.List.{list_any}
 use Rattle.attr_sets.specs.Attributes.{Attributes}
@@ -17,9 +18,10 @@ use Rattle.fewest_tables.specs.Alike.{AreGroups, all_exchanges}
 abbrev pub merged_scheme : List Dependency → List Attributes → Attributes
 merged_scheme ds group k = list_any (λ x. group_scheme ds x k) group
 
--- how the merged plan comes about: the fixed cover; its left sides in groups; what is left of the cover where, from the
--- first member to the last, each is left out that the others imply together with what is alike; and the schemes of the
--- groups, with the primary key of the universe where none holds a key
+-- how the merged plan comes about: the fixed cover; its left sides in groups; what is left of the
+-- cover where, from the first member to the last, each is left out that the others imply together
+-- with what is alike; and the schemes of the groups, with the primary key of the universe where
+-- none holds a key
 pub record AreMergedSteps (n : ℕ) (ds : List Dependency) (nullable : Attributes) (cover : List Dependency)
     (groups : List (List Attributes)) (kept : List Dependency) (all : List Attributes) : Type 0 where
   pub fixed : IsFixedCover n ds cover
@@ -41,7 +43,8 @@ pub record IsMergedPlan (n : ℕ) (ds : List Dependency) (nullable : Attributes)
 abbrev pub smaller : List AttrSet → List AttrSet → List AttrSet
 smaller first second = if nat_lt (length second) (length first) then second else first
 
--- the plan with the fewest schemes: the merged plan, unless the grouped one of `synthesize` has fewer
+-- the plan with the fewest schemes: the merged plan, unless the grouped one of `synthesize` has
+-- fewer
 pub record IsFewestPlan (n : ℕ) (ds : List Dependency) (nullable : Attributes) (plan : List AttrSet)
     : Type 0 where
   pub merged : List AttrSet

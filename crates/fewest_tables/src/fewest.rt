@@ -1,4 +1,4 @@
-ghost use Rattle.std.specs.Prelude.{◌≡◌, ◌⊎◌, nat_lt, length, IfOk, All};
+ghost use Rattle.std.specs.Prelude.{◌≡◌, ◌⊎◌, IfOk, All};
 ghost use Rattle.attr_sets.specs.Attributes.{Attributes};
 ghost use Rattle.attr_sets.specs.Sets.{attributes};
 ghost use Rattle.dep_model.specs.Forms.{IsThird};
@@ -18,8 +18,8 @@ use plans::{Plan, drop_contained};
 use std::alloc::Global;
 use synthesis_3nf::plan_of_steps;
 
-/// A lossless plan of schemes in third normal form that keeps the functional dependencies of a schema: that of
-/// `merged_plan`, or that of `synthesize` where it has fewer schemes.
+/// A lossless plan of schemes in third normal form that keeps the functional dependencies of a
+/// schema: that of `merged_plan`, or that of `synthesize` where it has fewer schemes.
 pub fn fewest_plan(alloc: Global, theory: &Theory, nullable: AttrSet) -> Result<Plan, OutOfMemory>
     ensures universe { IfOk result (IsPlanOver theory.now) }
     ensures made { IfOk result (λ plan. IsFewestPlan (width_of theory.now) (theory_of theory.now)
@@ -40,23 +40,16 @@ pub fn fewest_plan(alloc: Global, theory: &Theory, nullable: AttrSet) -> Result<
     Ok(smaller_plan(merged, plain))
 }
 
-// The second of two plans where it has fewer schemes, and else the first.
-fn smaller_plan(first: Plan, second: Plan) -> Plan
+/// The second of two plans where it has fewer schemes, and else the first.
+pub fn smaller_plan(first: Plan, second: Plan) -> Plan
     ensures chosen { scheme_sets result ≡ smaller (scheme_sets first) (scheme_sets second) }
     ensures either { (result ≡ first) ⊎ (result ≡ second) }
 {
-    if has_fewer(&second, &first) {
+    if second.schemes().len() < first.schemes().len() {
         second
     } else {
         first
     }
-}
-
-/// Whether a plan has fewer schemes than another.
-pub fn has_fewer(plan: &Plan, other: &Plan) -> bool
-    ensures fewer { result ≡ nat_lt (length (scheme_sets plan.now)) (length (scheme_sets other.now)) }
-{
-    plan.schemes().len() < other.schemes().len()
 }
 
 /// The plan that the steps lead to: the schemes of the groups without contained ones.

@@ -14,16 +14,17 @@ use dep_model::{OutOfMemory, Theory};
 use fd_closure::{KnownClosure, functional_closure};
 use std::alloc::Global;
 
-/// Left sides in groups: all of them, each with what it determines, and the first of each group of those that
-/// determine each other.
+/// Left sides in groups: all of them, each with what it determines, and the first of each group of
+/// those that determine each other.
 #[derive(Drop)]
 pub struct Grouping {
     pub lefts: Vec<KnownClosure>,
     pub firsts: Vec<KnownClosure>,
 }
 
-// The groups of left sides that determine each other by the functional dependencies: those with the same closure.
-pub fn grouping(
+// The groups of left sides that determine each other by the functional dependencies: those with the
+// same closure.
+pub fn group_left_sides(
     alloc: Global,
     theory: &Theory,
     lefts: &[AttrSet],

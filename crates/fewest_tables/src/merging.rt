@@ -3,12 +3,13 @@ ghost use Rattle.std.specs.List.{list_any};
 ghost use Rattle.attr_sets.specs.Sets.{attributes};
 ghost use Rattle.dep_model.specs.Deps.{dependency_of, dependencies_of};
 ghost use Rattle.dep_model.specs.Plans.{schemes_of};
-ghost use Rattle.fewest_tables.specs.FewestSteps.{groups_in};
+ghost use Rattle.fewest_tables.specs.FewestSteps.{group_with};
 ghost use Rattle.fewest_tables.specs.MergedPlans.{is_among, merged_scheme, has_same_sides};
 
-use crate::grouping::{Grouping, group_with};
+use crate::grouping::group_with;
 use attr_sets::AttrSet;
 use dep_model::{Dep, OutOfMemory, sides};
+use fd_closure::KnownClosure;
 use std::alloc::Global;
 use synthesis_3nf::group_scheme;
 
@@ -16,21 +17,35 @@ use synthesis_3nf::group_scheme;
 pub fn merged_schemes(
     alloc: Global,
     deps: &[Dep],
-    groups: &Grouping,
+    lefts: &[KnownClosure],
+    firsts: &[KnownClosure],
 ) -> Result<Vec<AttrSet>, OutOfMemory>
     ensures schemes { IfOk result (λ schemes. schemes_of schemes.items
-        ≡ map (merged_scheme (dependencies_of deps.now)) (groups_in groups.now)) }
+        ≡ map (merged_scheme (dependencies_of deps.now)) (map (group_with lefts.now) firsts.now)) }
 {
     let mut schemes = Vec::new(alloc);
-    for first in groups.firsts.iter() {
-        let group = group_with(alloc, &groups.lefts, *first)?;
-        schemes.push(merged_scheme(deps, &group))?;
+    for first in firsts {
+        schemes.push(scheme_with(alloc, deps, lefts, *first)?)?;
     }
     Ok(schemes)
 }
 
-/// The scheme of a group of left sides: these, with all that the dependencies of the list with one of them
-/// determine.
+// The scheme of the group of a left side.
+fn scheme_with(
+    alloc: Global,
+    deps: &[Dep],
+    lefts: &[KnownClosure],
+    first: KnownClosure,
+) -> Result<AttrSet, OutOfMemory>
+    ensures scheme { IfOk result (λ scheme. attributes scheme
+        ≡ merged_scheme (dependencies_of deps.now) (group_with lefts.now first)) }
+{
+    let group = group_with(alloc, lefts, first)?;
+    Ok(merged_scheme(deps, &group))
+}
+
+/// The scheme of a group of left sides: these, with all that the dependencies of the list with one
+/// of them determine.
 pub fn merged_scheme(deps: &[Dep], group: &[AttrSet]) -> AttrSet
     ensures scheme { attributes result ≡ merged_scheme (dependencies_of deps.now) (schemes_of group.now) }
 {

@@ -12,7 +12,7 @@ ghost use Rattle.fewest_tables.specs.FewestSteps.{AreFewestSteps, groups_in};
 ghost use Rattle.fewest_tables.specs.KeyedDesigns.{AreFewest};
 
 use crate::exchanging::shared_exchanges;
-use crate::grouping::{Grouping, grouping};
+use crate::grouping::{Grouping, group_left_sides};
 use crate::merging::merged_schemes;
 use crate::thinning::kept_beside;
 use attr_sets::AttrSet;
@@ -20,9 +20,10 @@ use dep_model::{Dep, OutOfMemory, Theory};
 use std::alloc::Global;
 use synthesis_3nf::{SynthesisSteps, synthesis_steps, with_key};
 
-/// How the plan comes about in which left sides that determine each other share a scheme: the steps of
-/// `synthesize`, of which the cover is taken; its left sides in groups; the members of the cover that are kept; and
-/// the schemes of the groups, with the primary key of the universe after them where none of them holds a key.
+/// How the plan comes about in which left sides that determine each other share a scheme: the steps
+/// of `synthesize`, of which the cover is taken; its left sides in groups; the members of the cover
+/// that are kept; and the schemes of the groups, with the primary key of the universe after them
+/// where none of them holds a key.
 #[derive(Drop)]
 pub struct FewestSteps {
     pub plain: SynthesisSteps,
@@ -31,9 +32,10 @@ pub struct FewestSteps {
     pub schemes: Vec<AttrSet>,
 }
 
-/// How the plan comes about in which left sides that determine each other share a scheme (Bernstein 1976; the key by
-/// Biskup, Dayal and Bernstein 1979). Members of the cover that follow from the others and from what is alike are
-/// left out, from the first on; else a scheme might have an attribute that a part of another of its keys determines.
+/// How the plan comes about in which left sides that determine each other share a scheme (Bernstein
+/// 1976; the key by Biskup, Dayal and Bernstein 1979). Members of the cover that follow from the
+/// others and from what is alike are left out, from the first on; else a scheme might have an
+/// attribute that a part of another of its keys determines.
 pub fn fewest_steps(
     alloc: Global,
     theory: &Theory,
@@ -66,9 +68,9 @@ fn steps_from(
     ensures fewest { IfOk result (λ steps. AreFewest (width_of theory.now) (theory_of theory.now)
         (groups_in steps.groups)) }
 {
-    let groups = grouping(alloc, theory, &plain.lefts)?;
+    let groups = group_left_sides(alloc, theory, &plain.lefts)?;
     let kept = kept_members(alloc, theory, &groups, &plain.cover)?;
-    let merged = merged_schemes(alloc, &kept, &groups)?;
+    let merged = merged_schemes(alloc, &kept, &groups.lefts, &groups.firsts)?;
     let schemes = with_key(theory, nullable, merged)?;
     Ok(FewestSteps {
         plain,
@@ -78,7 +80,8 @@ fn steps_from(
     })
 }
 
-// The members of a cover that the others do not imply together with what is alike in groups of its left sides.
+// The members of a cover that the others do not imply together with what is alike in groups of its
+// left sides.
 fn kept_members(
     alloc: Global,
     theory: &Theory,
@@ -92,6 +95,7 @@ fn kept_members(
         (all_exchanges (groups_in groups.now)) (dependencies_of cover.now)
         (all_exchanges (groups_in groups.now) ++ dependencies_of kept.items)) }
 {
-    let rules = shared_exchanges(alloc, groups)?;
-    kept_beside(alloc, theory.width(), rules, cover)
+    let rules = shared_exchanges(alloc, &groups.lefts, &groups.firsts)?;
+    let kept = kept_beside(alloc, theory.width(), rules, cover)?;
+    Ok(kept)
 }

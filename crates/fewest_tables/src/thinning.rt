@@ -8,8 +8,8 @@ use dep_model::{Dep, OutOfMemory};
 use min_cover::nonredundant_from;
 use std::alloc::Global;
 
-// The members of a cover that are left where, from the first to the last, each is left out that the others imply
-// together with rules that stay: those kept before it and all after it.
+// The members of a cover that are left where, from the first to the last, each is left out that the
+// others imply together with rules that stay: those kept before it and all after it.
 pub fn kept_beside(
     alloc: Global,
     width: u8,

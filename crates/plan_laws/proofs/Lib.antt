@@ -21,3 +21,4 @@ pub mod ReasonAnswers
 pub mod FormAnswers
 mod OneGrouping
 pub mod FewestAnswers
+mod FewestPlans
