@@ -1,4 +1,4 @@
-ghost use Rattle.std.specs.Prelude.{◌≡◌, ◌++◌, codes, if◌then◌else◌, false, IfOk, []};
+ghost use Rattle.std.specs.Prelude.{◌≡◌, ◌++◌, codes, if◌then◌else◌, false, IfOk, OnOk, []};
 ghost use Rattle.attr_sets.specs.Sets.{attributes};
 ghost use Rattle.sql_syntax.specs.Names.{comma_list, separator};
 ghost use Rattle.sql_syntax.specs.Printing.{group_text, item_text, query_text, selected_text, source_text};
