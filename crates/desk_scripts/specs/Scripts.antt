@@ -17,7 +17,7 @@ use Rattle.sql_migrate_laws.specs.Moved.{HasMoved, LeavesOthers}
 use Rattle.sql_migrate_laws.specs.Ending.{IsSoundRun}
 use Rattle.sql_check_laws.specs.HeldRelations.{Holds, CastsIntegers}
 use Rattle.sql_check_laws.specs.CheckedRules.{NoBreachShown, RulesHold, NothingShown}
-use Rattle.sql_measure_laws.specs.Measured.{TellsMeasures}
+use Rattle.sql_measure_laws.specs.Measured.{MeasuresRules}
 use Rattle.sql_scripts.specs.Checking.{check_text, NothingBreaks}
 use Rattle.sql_scripts.specs.Measuring.{measure_text}
 use Rattle.sql_scripts.specs.Migrating.{migrate_text, FillsTables, ViewIsTable}
@@ -81,7 +81,7 @@ ScriptsCheck schema name = WithTableName name (AsksTable schema name)
 abbrev pub CountsBreaches : Schema → List ℕ → Type 0
 CountsBreaches schema table =
     (e : Engine) (cell : ℕ → List ℕ → Cell) (r : Relation) → Holds e table schema cell r
-    → IsOver (width_of schema) r → TellsMeasures e schema table r
+    → IsOver (width_of schema) r → MeasuresRules e schema table r
 
 -- yes, with the queries that count what breaks each rule
 abbrev pub MeasuresTable : Schema → List ℕ → Allowed

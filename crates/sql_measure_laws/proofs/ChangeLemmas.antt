@@ -33,11 +33,11 @@ use Rattle.sql_measure_laws.specs.Measured.{rows_of_measure}
 use Rattle.sql_measure_laws.proofs.SumLemmas.{when, sum_over, times-total, max-is, total-sum}
 use Rattle.sql_measure_laws.proofs.GroupedLemmas.{rows_if, pos-less, rows-stated}
 use Rattle.sql_measure_laws.proofs.ClassLemmas.{stands, is_broken, rows_in, largest_in, broken_values, change_rows}
-use Rattle.sql_measure_laws.proofs.NumberLemmas.{TellsApart, number_in, same-number, key-of-row, number-of-key, row-of-tuple, stands-rows}
+use Rattle.sql_measure_laws.proofs.NumberLemmas.{AreSeparate, number_in, same-number, key-of-row, number-of-key, row-of-tuple, stands-rows}
 use Rattle.sql_measure_laws.proofs.FlagLemmas.{passing-sum, passing-count, passing-rows}
 
 module _ (s : Schema) (cell : Cells) (r : Relation) (x y : Attributes) (c : Classes x y r)
-    (apart_x : TellsApart s cell r x) (apart_w : TellsApart s cell r (union x y)) where
+    (apart_x : AreSeparate s cell r x) (apart_w : AreSeparate s cell r (union x y)) where
   abbrev w : Attributes
   w = union x y
 

@@ -16,7 +16,7 @@ use Rattle.sql_evaluation.specs.Cells.{Cell}
 use Rattle.sql_check_laws.proofs.GroupLemmas.{Cells}
 use Rattle.sql_check_laws.proofs.ValuesLemmas.{cells_on, values_of}
 use Rattle.sql_measure_laws.proofs.SumLemmas.{when, sum_over, sum-filter, length-sum, total-count}
-use Rattle.sql_measure_laws.proofs.NumberLemmas.{TellsApart, values-total}
+use Rattle.sql_measure_laws.proofs.NumberLemmas.{AreSeparate, values-total}
 
 -- the rows of a group that has a flag
 and_last : (a b : Bool) → b ≡ false → (a && b) ≡ false
@@ -41,9 +41,9 @@ flagged-group numbers flags h =
     ∙ count_when (flag_at flags h) (λ (i : ℕ). number_at numbers i == h) (length numbers)
 
 module _ (s : Schema) (cell : Cells) (r : Relation) (x : Attributes) (numbers firsts : List ℕ)
-    (apart : TellsApart s cell r x) (are : AreGroups r x numbers) (first : AreFirsts numbers firsts)
+    (apart : AreSeparate s cell r x) (are : AreGroups r x numbers) (first : AreFirsts numbers firsts)
     (flags : List Bool) (one_each : length flags ≡ length firsts) (passes : List Cell → Bool)
-    (told : (h : ℕ) → h < length firsts → passes (cells_on s cell x (row_at r (number_at firsts h))) ≡ flag_at flags h) where
+    (decides : (h : ℕ) → h < length firsts → passes (cells_on s cell x (row_at r (number_at firsts h))) ≡ flag_at flags h) where
   abbrev key_at : ℕ → List Cell
   key_at h = cells_on s cell x (row_at r (number_at firsts h))
 
@@ -53,7 +53,7 @@ module _ (s : Schema) (cell : Cells) (r : Relation) (x : Attributes) (numbers fi
       sum-filter f passes (values_of s cell x r)
       ∙ values-total s cell r x numbers firsts apart are first (λ (key : List Cell). when (passes key) (f key))
       ∙ total-same (λ (h : ℕ). when (passes (key_at h)) (f (key_at h))) (λ (h : ℕ). when (flag_at flags h) (f (key_at h))) (length firsts)
-      (λ h h_in. ap (λ (b : Bool). when b (f (key_at h))) (told h h_in))
+      (λ h h_in. ap (λ (b : Bool). when b (f (key_at h))) (decides h h_in))
 
   -- how many pass
   pub passing-count : length (filter passes (values_of s cell x r)) ≡ flagged_groups flags
@@ -61,7 +61,7 @@ module _ (s : Schema) (cell : Cells) (r : Relation) (x : Attributes) (numbers fi
       length-sum passes (values_of s cell x r)
       ∙ values-total s cell r x numbers firsts apart are first (λ (key : List Cell). when (passes key) 1)
       ∙ total-same (λ (h : ℕ). when (passes (key_at h)) 1) (λ (h : ℕ). when (flag_at flags h) 1) (length firsts)
-      (λ h h_in. ap (λ (b : Bool). when b 1) (told h h_in))
+      (λ h h_in. ap (λ (b : Bool). when b 1) (decides h h_in))
       ∙ total-count (flag_at flags) (length firsts)
       ∙ ap (count_below (flag_at flags)) (sym one_each)
 

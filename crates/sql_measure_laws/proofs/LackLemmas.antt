@@ -37,7 +37,7 @@ use Rattle.sql_measure_laws.specs.Measured.{rows_of_measure}
 use Rattle.sql_measure_laws.proofs.SumLemmas.{when, sum_over, sum-known, length-sum, total-count, total-sum}
 use Rattle.sql_measure_laws.proofs.TotalLemmas.{total-zero, total-some, part-total, total-by-groups, count-times}
 use Rattle.sql_measure_laws.proofs.GroupedLemmas.{rows_if, pos-less, rows-stated}
-use Rattle.sql_measure_laws.proofs.NumberLemmas.{TellsApart, first_in, key-told, every-value, values-total, stands-rows}
+use Rattle.sql_measure_laws.proofs.NumberLemmas.{AreSeparate, first_in, key-decides, every-value, values-total, stands-rows}
 use Rattle.sql_measure_laws.proofs.FlagLemmas.{passing-sum, passing-count, passing-rows}
 use Rattle.sql_measure_laws.proofs.NumberedLemmas.{numbers_of_rows}
 use Rattle.sql_measure_laws.proofs.FourLemmas.{tuples_with, surplus, uneven_values, int_sum, int-pos, lack_rows}
@@ -45,7 +45,7 @@ use Rattle.sql_measure_laws.proofs.FourLemmas.{tuples_with, surplus, uneven_valu
 -- ---- the parts of a group
 -- as many values on a larger set stand beside a value as its group has parts by it
 pub size-parts : (s : Schema) (cell : Cells) (r : Relation) (x w : Attributes) (groups firsts parts part_firsts : List ℕ)
-    → TellsApart s cell r x → AreGroups r x groups → AreFirsts groups firsts → TellsApart s cell r w → AreGroups r w parts → AreFirsts parts part_firsts → IsSubset x w
+    → AreSeparate s cell r x → AreGroups r x groups → AreFirsts groups firsts → AreSeparate s cell r w → AreGroups r w parts → AreFirsts parts part_firsts → IsSubset x w
     → (h : ℕ) → h < length firsts
     → size_on s cell x r w (cells_on s cell x (row_at r (number_at firsts h))) ≡ part_count groups part_firsts h
 size-parts s cell r x w groups firsts parts part_firsts apart_x by_x group_rows apart_w by_w part_rows within h h_in =
@@ -57,7 +57,7 @@ size-parts s cell r x w groups firsts parts part_firsts apart_x by_x group_rows 
     ∙ total-same (λ (d : ℕ). when (passes (part_key d)) 1) (λ (d : ℕ). when (number_at groups (number_at part_firsts d) == h) 1) (length part_firsts)
     (λ d d_in. ap (λ (b : Bool). when b 1)
     (ap (λ (row : List Cell). same_row row key) (pick-cells s cell w x (row_at r (number_at part_firsts d)) within)
-    ∙ key-told s cell r x groups firsts apart_x by_x group_rows (number_at part_firsts d) h (first_in s cell r w parts part_firsts apart_w by_w part_rows d d_in) h_in))
+    ∙ key-decides s cell r x groups firsts apart_x by_x group_rows (number_at part_firsts d) h (first_in s cell r w parts part_firsts apart_w by_w part_rows d d_in) h_in))
     ∙ total-count (λ (d : ℕ). number_at groups (number_at part_firsts d) == h) (length part_firsts)
 
 -- a list of the parts of each group
@@ -73,7 +73,7 @@ counts-are numbers firsts parts = record {
 
 module _ (s : Schema) (cell : Cells) (r : Relation) (x y : Attributes) (p : Parts (width_of s) x y r)
     (x_in : IsSubset x (below (width_of s))) (y_in : IsSubset y (below (width_of s)))
-    (apart : (v : Attributes) → IsSubset v (below (width_of s)) → TellsApart s cell r v) where
+    (apart : (v : Attributes) → IsSubset v (below (width_of s)) → AreSeparate s cell r v) where
   abbrev n : ℕ
   n = width_of s
 

@@ -27,10 +27,10 @@ use Rattle.sql_check_laws.proofs.GroupLemmas.{Cells}
 use Rattle.sql_check_laws.proofs.LawLemmas.{nil_not_empty}
 use Rattle.sql_check_laws.proofs.SeveralLemmas.{cells-agree, several-none}
 use Rattle.sql_check_laws.proofs.UnpairedLemmas.{unpaired-none}
-use Rattle.sql_measure_laws.specs.Measured.{rows_of_measure, GivesMeasure, TellsMeasure, TellsMeasures}
+use Rattle.sql_measure_laws.specs.Measured.{rows_of_measure, GivesMeasure, MeasuresRule, MeasuresRules}
 use Rattle.sql_measure_laws.proofs.GroupedLemmas.{rows_if, no-rows}
 use Rattle.sql_measure_laws.proofs.KeyLemmas.{not_empty-map}
-use Rattle.sql_measure_laws.proofs.NumberLemmas.{TellsApart}
+use Rattle.sql_measure_laws.proofs.NumberLemmas.{AreSeparate}
 use Rattle.sql_measure_laws.proofs.ClassLemmas.{broken_values, change-known}
 use Rattle.sql_measure_laws.proofs.ChangeLemmas.{change-measured}
 use Rattle.sql_measure_laws.proofs.FourLemmas.{uneven_values, lack-known}
@@ -39,9 +39,9 @@ use Rattle.sql_measure_laws.proofs.LackLemmas.{lack-measured}
 both_ways : {A B C : Type 0} → A ↔ B → B ↔ C → A ↔ C
 both_ways first second = (λ a. second.0 (first.0 a), λ c. first.1 (second.1 c))
 
--- values are told apart on the attributes of a table
+-- values on the attributes of a table are separate
 apart-on : (e : Engine) (table : List ℕ) (s : Schema) (cell : Cells) (r : Relation) → Holds e table s cell r
-    → (v : Attributes) → IsSubset v (below (width_of s)) → TellsApart s cell r v
+    → (v : Attributes) → IsSubset v (below (width_of s)) → AreSeparate s cell r v
 apart-on e table s cell r held v within t u ht hu same = cells-agree e table s cell r v t u held within ht hu same
 
 -- what a query shows where no value breaks anything
@@ -62,11 +62,11 @@ some-columns s x y y_in beyond = elim (cases_Bool (is_not_empty (members_below (
       ∙ beyond))
 ]
 
-change-told : (e : Engine) (table : List ℕ) (s : Schema) (cell : Cells) (r : Relation) (x y : Attributes) → Holds e table s cell r → IsOver (width_of s) r
+fd-measured : (e : Engine) (table : List ℕ) (s : Schema) (cell : Cells) (r : Relation) (x y : Attributes) → Holds e table s cell r → IsOver (width_of s) r
     → IsSubset x (below (width_of s)) → IsSubset y (below (width_of s)) → is_subset y x ≡ false
     → GivesNone (width_of s) (several x (union x y)) r ↔ Obeys (width_of s) (fd x y) r
     → GivesMeasure e (change_query s table x (union x y)) (width_of s) (fd x y) r
-change-told e table s cell r x y held over x_in y_in beyond law =
+fd-measured e table s cell r x y held over x_in y_in beyond law =
     let w = union x y in
     let both_in : IsSubset w (below (width_of s)) = union_within (width_of s) x y x_in y_in in
     let within : IsSubset x w = λ (k : ℕ) m. grind (arith, m) in
@@ -83,11 +83,11 @@ change-told e table s cell r x y held over x_in y_in beyond law =
     }
 
 -- ---- multivalued dependencies
-lack-told : (e : Engine) (table : List ℕ) (s : Schema) (cell : Cells) (r : Relation) (x y : Attributes) → Holds e table s cell r → IsOver (width_of s) r
+mvd-measured : (e : Engine) (table : List ℕ) (s : Schema) (cell : Cells) (r : Relation) (x y : Attributes) → Holds e table s cell r → IsOver (width_of s) r
     → IsSubset x (below (width_of s)) → IsSubset y (below (width_of s))
     → GivesNone (width_of s) (unpaired x (difference y x) (difference (below (width_of s)) (union x y))) r ↔ Obeys (width_of s) (mvd x y) r
     → GivesMeasure e (lack_query s table x (difference y x) (difference (below (width_of s)) (union x y))) (width_of s) (mvd x y) r
-lack-told e table s cell r x y held over x_in y_in law =
+mvd-measured e table s cell r x y held over x_in y_in law =
     let right = difference y x in
     let rest = difference (below (width_of s)) (union x y) in
     let all_in : IsSubset (union x (union right rest)) (below (width_of s)) = λ (k : ℕ) m. let in_x = x_in k in let in_y = y_in k in grind (arith, m, in_x, in_y) in
@@ -104,30 +104,30 @@ lack-told e table s cell r x y held over x_in y_in law =
     }
 
 -- ---- dependencies
-measure-told : (e : Engine) (table : List ℕ) (s : Schema) (cell : Cells) (r : Relation) (d : Dependency) → Holds e table s cell r → IsOver (width_of s) r
-    → IsWithin (below (width_of s)) d → TellsMeasure e s table r d
-measure-told e table s cell r (fd x y) held over inside =
+rule-measured : (e : Engine) (table : List ℕ) (s : Schema) (cell : Cells) (r : Relation) (d : Dependency) → Holds e table s cell r → IsOver (width_of s) r
+    → IsWithin (below (width_of s)) d → MeasuresRule e s table r d
+rule-measured e table s cell r (fd x y) held over inside =
     let n = width_of s in
     let law = breaches_tell n (fd x y) r s.valid.names_within_limit inside over in
     let stated = λ (b : Bool). MatchOption (if b then None else Some (several x (union x y))) (Obeys n (fd x y) r) (λ q. GivesNone n q r ↔ Obeys n (fd x y) r) in
     elim (cases_Bool (is_subset y x)) [
       | inl within ↦ rw within (subst stated within law)
-      | inr beyond ↦ rw beyond (change-told e table s cell r x y held over inside.0 inside.1 beyond (subst stated beyond law))
+      | inr beyond ↦ rw beyond (fd-measured e table s cell r x y held over inside.0 inside.1 beyond (subst stated beyond law))
     ]
-measure-told e table s cell r (mvd x y) held over inside =
+rule-measured e table s cell r (mvd x y) held over inside =
     let n = width_of s in
     let law = breaches_tell n (mvd x y) r s.valid.names_within_limit inside over in
     let rest = difference (below n) (union x y) in
     let stated = λ (b : Bool). MatchOption (if b then None else Some (unpaired x (difference y x) rest)) (Obeys n (mvd x y) r) (λ q. GivesNone n q r ↔ Obeys n (mvd x y) r) in
     elim (cases_Bool (is_subset y x || is_subset (below n) (union x y))) [
       | inl always ↦ rw always (subst stated always law)
-      | inr sometimes ↦ rw sometimes (lack-told e table s cell r x y held over inside.0 inside.1 (subst stated sometimes law))
+      | inr sometimes ↦ rw sometimes (mvd-measured e table s cell r x y held over inside.0 inside.1 (subst stated sometimes law))
     ]
 
-pub measures_told : (e : Engine) (table : List ℕ) (s : Schema) (cell : Cells) (r : Relation) → Holds e table s cell r → IsOver (width_of s) r
-    → TellsMeasures e s table r
-measures_told e table s cell r held over i d lt =
+pub rules_measured : (e : Engine) (table : List ℕ) (s : Schema) (cell : Cells) (r : Relation) → Holds e table s cell r → IsOver (width_of s) r
+    → MeasuresRules e s table r
+rules_measured e table s cell r held over i d lt =
     let within : All (IsWithin (below (width_of s))) (theory_of s) = dependencies_all-from (IsWithin (below (width_of s))) (deps_of s) s.valid.deps_within in
     let at = get_or (theory_of s) i d in
-    measure-told e table s cell r at held over
+    rule-measured e table s cell r at held over
     (All-contains (IsWithin (below (width_of s))) (theory_of s) at within (Contains-get_or (theory_of s) i d lt))

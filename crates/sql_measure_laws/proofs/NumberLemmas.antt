@@ -22,11 +22,11 @@ use Rattle.sql_check_laws.proofs.ValuesLemmas.{cells_on, values_of}
 use Rattle.sql_measure_laws.proofs.SumLemmas.{sum_over, sum-total, times, count_rows}
 
 -- tuples of a relation with the same values on a set agree on it
-abbrev pub TellsApart : Schema → Cells → Relation → Attributes → Type 0
-TellsApart s cell r x = (t u : Tuple) → Contains r t → Contains r u → cells_on s cell x t ≡ cells_on s cell x u → AgreeOn x t u
+abbrev pub AreSeparate : Schema → Cells → Relation → Attributes → Type 0
+AreSeparate s cell r x = (t u : Tuple) → Contains r t → Contains r u → cells_on s cell x t ≡ cells_on s cell x u → AgreeOn x t u
 
 module _ (s : Schema) (cell : Cells) (r : Relation) (x : Attributes) (numbers firsts : List ℕ)
-    (apart : TellsApart s cell r x) (are : AreGroups r x numbers) (first : AreFirsts numbers firsts) where
+    (apart : AreSeparate s cell r x) (are : AreGroups r x numbers) (first : AreFirsts numbers firsts) where
   -- the values of a row
   abbrev pub cells_at : ℕ → List Cell
   cells_at i = cells_on s cell x (row_at r i)
@@ -82,8 +82,8 @@ module _ (s : Schema) (cell : Cells) (r : Relation) (x : Attributes) (numbers fi
   values-total f = sum-total same_row same_row-decides key_at (values_of s cell x r) f (length firsts) key-once keys-apart every-value
 
   -- ---- as many tuples have a value as rows its number
-  pub key-told : (i h : ℕ) → i < length r → h < length firsts → same_row (cells_at i) (key_at h) ≡ (number_at numbers i == h)
-  key-told i h i_in h_in =
+  pub key-decides : (i h : ℕ) → i < length r → h < length firsts → same_row (cells_at i) (key_at h) ≡ (number_at numbers i == h)
+  key-decides i h i_in h_in =
       same_truth (same_row (cells_at i) (key_at h)) (number_at numbers i == h)
       (λ is. eq-eqb (number_at numbers i) h (number-of-key i h i_in h_in ((same_row-decides (cells_at i) (key_at h)).0 is)))
       (λ is. (same_row-decides (cells_at i) (key_at h)).1
@@ -92,5 +92,5 @@ module _ (s : Schema) (cell : Cells) (r : Relation) (x : Attributes) (numbers fi
   pub stands-rows : (h : ℕ) → h < length firsts → times same_row (cells_on s cell x) r (key_at h) ≡ rows_of numbers h
   stands-rows h h_in =
       count_rows (λ (t : Tuple). same_row (cells_on s cell x t) (key_at h)) r
-      ∙ count_below-equal (length r) (λ (i : ℕ). same_row (cells_at i) (key_at h)) (λ (i : ℕ). number_at numbers i == h) (λ i i_in. key-told i h i_in h_in)
+      ∙ count_below-equal (length r) (λ (i : ℕ). same_row (cells_at i) (key_at h)) (λ (i : ℕ). number_at numbers i == h) (λ i i_in. key-decides i h i_in h_in)
       ∙ ap (count_below (λ (i : ℕ). number_at numbers i == h)) (sym are.one_each)

@@ -16,7 +16,7 @@ use Rattle.sql_check_laws.proofs.CountLemmas.{DecidesSame}
 use Rattle.sql_check_laws.proofs.GroupLemmas.{Cells}
 use Rattle.sql_check_laws.proofs.SeveralLemmas.{agree-cells}
 use Rattle.sql_check_laws.proofs.ValuesLemmas.{cells_on}
-use Rattle.sql_measure_laws.proofs.NumberLemmas.{TellsApart}
+use Rattle.sql_measure_laws.proofs.NumberLemmas.{AreSeparate}
 
 -- ---- numbers
 -- a value is among those that were seen, or not
@@ -89,7 +89,7 @@ firsts_of_numbers numbers order =
     (all.0, record { each = all.1.each; within = all.1.within; number = all.1.number; least = all.1.least })
 
 -- the numbers of the rows by a set
-pub numbers_of_rows : (s : Schema) (cell : Cells) (r : Relation) (x : Attributes) → TellsApart s cell r x → (numbers firsts : List ℕ) × AreGroups r x numbers × AreFirsts numbers firsts
+pub numbers_of_rows : (s : Schema) (cell : Cells) (r : Relation) (x : Attributes) → AreSeparate s cell r x → (numbers firsts : List ℕ) × AreGroups r x numbers × AreFirsts numbers firsts
 numbers_of_rows s cell r x apart =
     let value : ℕ → List Cell = λ i. cells_on s cell x (row_at r i) in
     let all = numbered same_row same_row-decides value (length r) in

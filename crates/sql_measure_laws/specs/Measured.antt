@@ -1,4 +1,4 @@
--- What the queries of `sql measure` tell of a relation: for the law of these queries, and for the script
+-- What the queries of `sql measure` show of a relation: for the law of these queries, and for the script
 -- (`sql_scripts`).
 use Rattle.std.specs.Prelude.{◌≡◌, ◌↔◌, ◌==◌, ℕ, if◌then◌else◌, Some, List, [], ◌∷◌, All, MatchOption, pos}
 use Rattle.schema_model.specs.Schemas.{Schema}
@@ -29,9 +29,9 @@ pub record GivesMeasure (e : Engine) (q : Query) (n : ℕ) (d : Dependency) (r :
   pub numbers : (m : Measure) → IsMeasure n r d m → result.rows ≡ rows_of_measure m
 
 -- the query of a dependency counts what breaks it; where it has none, the relation obeys it
-abbrev pub TellsMeasure : Engine → Schema → List ℕ → Relation → Dependency → Type 0
-TellsMeasure e s table r d =
+abbrev pub MeasuresRule : Engine → Schema → List ℕ → Relation → Dependency → Type 0
+MeasuresRule e s table r d =
     MatchOption (measure_query s table d) (Obeys (width_of s) d r) (λ q. GivesMeasure e q (width_of s) d r)
 
-abbrev pub TellsMeasures : Engine → Schema → List ℕ → Relation → Type 0
-TellsMeasures e s table r = All (TellsMeasure e s table r) (theory_of s)
+abbrev pub MeasuresRules : Engine → Schema → List ℕ → Relation → Type 0
+MeasuresRules e s table r = All (MeasuresRule e s table r) (theory_of s)

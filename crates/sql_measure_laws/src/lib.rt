@@ -9,4 +9,4 @@
 
 mod laws;
 
-pub use laws::queries_tell_measures;
+pub use laws::queries_count_breaches;

@@ -4,7 +4,7 @@ ghost use Rattle.dep_model.specs.Tuples.{Relation, IsOver};
 ghost use Rattle.sql_evaluation.specs.Cells.{Cell};
 ghost use Rattle.sql_evaluation.specs.Evaluation.{Engine};
 ghost use Rattle.sql_check_laws.specs.HeldRelations.{Holds};
-ghost use Rattle.sql_measure_laws.specs.Measured.{TellsMeasures};
+ghost use Rattle.sql_measure_laws.specs.Measured.{MeasuresRules};
 ghost use Rattle.sql_scripts.specs.Naming.{is_table_name, quoted_table};
 ghost use Rattle.sql_scripts.specs.Measuring.{measure_text, measured_rules_text};
 
@@ -21,9 +21,9 @@ use std::alloc::Global;
 pub fn measure_script(alloc: Global, schema: &Schema, table: &[u8]) -> Result<Vec<u8>, OutOfMemory>
     requires name { IsTrue (is_table_name table.now) }
     ensures text { IfOk result (λ text. text.items ≡ measure_text schema.now (quoted_table table.now)) }
-    ensures tells { (e : Engine) (cell : ℕ → List ℕ → Cell) (r : Relation)
+    ensures measures { (e : Engine) (cell : ℕ → List ℕ → Cell) (r : Relation)
         → Holds e (quoted_table table.now) schema.now cell r → IsOver (width_of schema.now) r
-        → TellsMeasures e schema.now (quoted_table table.now) r }
+        → MeasuresRules e schema.now (quoted_table table.now) r }
 {
     measure_text(alloc, schema, table)
 }
