@@ -75,9 +75,10 @@ abbrev pub ScriptsCheck : Schema → List ℕ → Allowed
 ScriptsCheck schema name = WithTableName name (AsksTable schema name)
 
 -- ---- measuring
--- what the queries of a script for a table count: where an engine holds a relation as this table, its tuples as often
--- as they stand, the query of each dependency ends without an error; it gives no row exactly where the relation obeys
--- the dependency, and else one row with the numbers of the relation's measure against it
+-- what the queries of a script for a table count: where an engine holds a relation as this table, its
+-- tuples as often as they stand, the query of each dependency ends without an error; it gives no row
+-- exactly where the relation obeys the dependency, and else one row with the numbers of the
+-- relation's measure against it
 abbrev pub CountsBreaches : Schema → List ℕ → Type 0
 CountsBreaches schema table =
     (e : Engine) (cell : ℕ → List ℕ → Cell) (r : Relation) → Holds e table schema cell r
@@ -86,7 +87,8 @@ CountsBreaches schema table =
 -- yes, with the queries that count what breaks each rule
 abbrev pub MeasuresTable : Schema → List ℕ → Allowed
 MeasuresTable schema name response =
-    CountsBreaches schema (quoted_table name) × Says Yes (measure_text schema (quoted_table name)) response
+    CountsBreaches schema (quoted_table name)
+    × Says Yes (measure_text schema (quoted_table name)) response
 
 abbrev pub ScriptsMeasure : Schema → List ℕ → Allowed
 ScriptsMeasure schema name = WithTableName name (MeasuresTable schema name)

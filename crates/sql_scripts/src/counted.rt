@@ -43,7 +43,8 @@ fn counts_text(
 ) -> Result<Vec<u8>, OutOfMemory>
     ensures text { IfOk result (λ text. text.items ≡ selected_text false
         (comma_list item_text (groups_made schema.now (attributes shown))
-        ++ (if has_members schema.now (attributes shown) then separator ++ counts.now else counts.now))
+        ++ (if has_members schema.now (attributes shown) then separator ++ counts.now
+        else counts.now))
         source.now (codes "d") (group_text (columns_on schema.now (codes "d") (attributes set)))) }
 {
     let mut items = items_text(alloc, schema, shown, Listed::GroupMade)?;
@@ -60,8 +61,8 @@ pub fn keys_clause(
     listed: Listed,
 ) -> Result<Vec<u8>, OutOfMemory>
     ensures text { IfOk result (λ text. text.items ≡ (if has_members schema.now (attributes set)
-        then codes " GROUP BY " ++ comma_list item_text (items_of schema.now listed (attributes set))
-        else [])) }
+        then codes " GROUP BY "
+        ++ comma_list item_text (items_of schema.now listed (attributes set)) else [])) }
 {
     if !has_members(schema, set) {
         return Ok(Vec::new(alloc));
@@ -129,10 +130,14 @@ pub fn four_counts(
     let rests = values_source(alloc, schema, table, lhs.union(second))?;
     let all = values_source(alloc, schema, table, lhs.union(first.union(second)))?;
     let rows = counted_rows(alloc, schema, table, lhs)?;
-    let mut text = counts_text(alloc, schema, lhs, lhs, &lefts, b"COUNT(*) AS y, 0 AS z, 0 AS n, 0 AS r")?;
-    add_counts(alloc, &mut text, schema, lhs, &rests, b"0 AS y, COUNT(*) AS z, 0 AS n, 0 AS r")?;
-    add_counts(alloc, &mut text, schema, lhs, &all, b"0 AS y, 0 AS z, COUNT(*) AS n, 0 AS r")?;
-    add_counts(alloc, &mut text, schema, lhs, &rows, b"0 AS y, 0 AS z, 0 AS n, COUNT(*) AS r")?;
+    let of_lefts = b"COUNT(*) AS y, 0 AS z, 0 AS n, 0 AS r";
+    let mut text = counts_text(alloc, schema, lhs, lhs, &lefts, of_lefts)?;
+    let of_rests = b"0 AS y, COUNT(*) AS z, 0 AS n, 0 AS r";
+    add_counts(alloc, &mut text, schema, lhs, &rests, of_rests)?;
+    let of_all = b"0 AS y, 0 AS z, COUNT(*) AS n, 0 AS r";
+    add_counts(alloc, &mut text, schema, lhs, &all, of_all)?;
+    let of_rows = b"0 AS y, 0 AS z, 0 AS n, COUNT(*) AS r";
+    add_counts(alloc, &mut text, schema, lhs, &rows, of_rows)?;
     in_brackets(alloc, &text)
 }
 
@@ -148,7 +153,8 @@ fn add_counts(
     ensures added { OnOk result (text.new.items ≡ text.old.items ++ codes " UNION ALL "
         ++ selected_text false
         (comma_list item_text (groups_made schema.now (attributes lhs))
-        ++ (if has_members schema.now (attributes lhs) then separator ++ counts.now else counts.now))
+        ++ (if has_members schema.now (attributes lhs) then separator ++ counts.now
+        else counts.now))
         source.now (codes "d") (group_text (columns_on schema.now (codes "d") (attributes lhs)))) }
 {
     add(text, b" UNION ALL ")?;

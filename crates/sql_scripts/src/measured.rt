@@ -56,7 +56,8 @@ fn measured_fd(
     rhs: AttrSet,
 ) -> Result<Vec<u8>, OutOfMemory>
     ensures text { IfOk result (λ text. text.items
-        ≡ breaches_text (measure_query schema.now table.now (fd (attributes lhs) (attributes rhs)))) }
+        ≡ breaches_text (measure_query schema.now table.now
+        (fd (attributes lhs) (attributes rhs)))) }
 {
     if rhs.is_subset(lhs) {
         return holds_always(alloc);
@@ -73,7 +74,8 @@ fn measured_mvd(
     rhs: AttrSet,
 ) -> Result<Vec<u8>, OutOfMemory>
     ensures text { IfOk result (λ text. text.items
-        ≡ breaches_text (measure_query schema.now table.now (mvd (attributes lhs) (attributes rhs)))) }
+        ≡ breaches_text (measure_query schema.now table.now
+        (mvd (attributes lhs) (attributes rhs)))) }
 {
     let universe = AttrSet::full(schema.width());
     let both = lhs.union(rhs);
@@ -89,7 +91,8 @@ fn measured_mvd(
     line_of_query(alloc, b"\n", &query)
 }
 
-// Of the groups that have more than one class how many they are, their rows, and those that must change.
+// Of the groups that have more than one class how many they are, their rows, and those that must
+// change.
 #[tactic(auto, unfolding(sql_measure::specs::Measures::totals_query))]
 fn change_text(
     alloc: Global,
@@ -160,7 +163,8 @@ fn totals_text(
     )
 }
 
-// For each value of the left side its rows, those of its largest class, and its classes, as a source.
+// For each value of the left side its rows, those of its largest class, and its classes, as a
+// source.
 fn groups_text(
     alloc: Global,
     schema: &Schema,

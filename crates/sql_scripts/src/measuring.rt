@@ -15,12 +15,14 @@ use dep_model::OutOfMemory;
 use schema_model::Schema;
 use std::alloc::Global;
 
-/// A script that counts in a table what breaks each dependency of a schema. In an engine that holds a relation as
-/// this table, its tuples as often as they stand, the query of a dependency ends without an error; it gives no row
-/// exactly where the relation obeys the dependency, and else one row with the numbers of its measure.
+/// A script that counts in a table what breaks each dependency of a schema. In an engine that holds a
+/// relation as this table, its tuples as often as they stand, the query of a dependency ends without
+/// an error; it gives no row exactly where the relation obeys the dependency, and else one row with
+/// the numbers of its measure.
 pub fn measure_script(alloc: Global, schema: &Schema, table: &[u8]) -> Result<Vec<u8>, OutOfMemory>
     requires name { IsTrue (is_table_name table.now) }
-    ensures text { IfOk result (λ text. text.items ≡ measure_text schema.now (quoted_table table.now)) }
+    ensures text { IfOk result
+        (λ text. text.items ≡ measure_text schema.now (quoted_table table.now)) }
     ensures measures { (e : Engine) (cell : ℕ → List ℕ → Cell) (r : Relation)
         → Holds e (quoted_table table.now) schema.now cell r → IsOver (width_of schema.now) r
         → MeasuresRules e schema.now (quoted_table table.now) r }
@@ -30,14 +32,16 @@ pub fn measure_script(alloc: Global, schema: &Schema, table: &[u8]) -> Result<Ve
 
 // The text of the script.
 fn measure_text(alloc: Global, schema: &Schema, table: &[u8]) -> Result<Vec<u8>, OutOfMemory>
-    ensures text { IfOk result (λ text. text.items ≡ measure_text schema.now (quoted_table table.now)) }
+    ensures text { IfOk result
+        (λ text. text.items ≡ measure_text schema.now (quoted_table table.now)) }
 {
     let table = quote_table(alloc, table)?;
     let mut text = Vec::new(alloc);
     add(
         &mut text,
-        b"-- where a rule is broken, its query gives one row: broken groups, rows in them, and how many must change or are missing\n",
+        b"-- where a rule is broken, its query gives one row: broken groups, rows in them, ",
     )?;
+    add(&mut text, b"and how many must change or are missing\n")?;
     add_measured_rules(alloc, &mut text, schema, &table)?;
     Ok(text)
 }
