@@ -21,13 +21,16 @@ abbrev pub rows_of_measure : Measure → List (List Cell)
 rows_of_measure m = if m.groups == 0 then [] else row_of_measure m ∷ []
 
 -- a query ends without an error; it gives no row exactly where a relation over n attributes obeys a
--- dependency, and else the row of the relation's measure against it
+-- dependency, and else the row of the measure of the relation against it, of which there is one
+-- (`one_measure`)
 pub record GivesMeasure (e : Engine) (q : Query) (n : ℕ) (d : Dependency) (r : Relation)
     : Type 0 where
   pub result : Rows
   pub evaluates : evaluate e q ≡ Some result
   pub none : (result.rows ≡ []) ↔ Obeys n d r
-  pub numbers : (m : Measure) → IsMeasure n r d m → result.rows ≡ rows_of_measure m
+  pub measure : Measure
+  pub is : IsMeasure n r d measure
+  pub shows : result.rows ≡ rows_of_measure measure
 
 -- the query of a dependency counts what breaks it; where it has none, the relation obeys it
 abbrev pub MeasuresRule : Engine → Schema → List ℕ → Relation → Dependency → Type 0
