@@ -1,5 +1,5 @@
 -- The query of each dependency counts what breaks it.
-use Rattle.std.proofs.Common.{◌≡◌, ◌<◌, ℕ, Bool, true, false, ◌||◌, List, [], length, get_or, Some, None, sym, ap, subst, ◌∙◌, inl, inr, arith}
+use Rattle.std.proofs.Common.{◌≡◌, ◌<◌, ℕ, Bool, true, false, ◌||◌, List, [], length, get_or, Some, None, refl, sym, subst, ◌∙◌, inl, inr, arith}
 use Rattle.std.proofs.lemmas.Bool.{cases_Bool, true≢false, ltb-true}
 use Rattle.std.proofs.lemmas.List.Elements.{All-contains, Contains-get_or}
 use Rattle.std.specs.Prelude.{◌↔◌, All, Contains, MatchOption, if◌then◌else◌, codes}
@@ -27,12 +27,14 @@ use Rattle.sql_check_laws.proofs.GroupLemmas.{Cells}
 use Rattle.sql_check_laws.proofs.LawLemmas.{nil_not_empty}
 use Rattle.sql_check_laws.proofs.SeveralLemmas.{cells-agree, several-none}
 use Rattle.sql_check_laws.proofs.UnpairedLemmas.{unpaired-none}
-use Rattle.sql_measure_laws.specs.Measured.{rows_of_measure, GivesMeasure, MeasuresRule, MeasuresRules}
+use Rattle.row_measures.specs.Answers.{measure_by_classes}
+use Rattle.sql_measure_laws.specs.Measured.{GivesMeasure, MeasuresRule, MeasuresRules}
 use Rattle.sql_measure_laws.proofs.GroupedLemmas.{rows_if, no-rows}
 use Rattle.sql_measure_laws.proofs.KeyLemmas.{not_empty-map}
 use Rattle.sql_measure_laws.proofs.NumberLemmas.{AreSeparate}
 use Rattle.sql_measure_laws.proofs.ClassLemmas.{broken_values, change-known}
 use Rattle.sql_measure_laws.proofs.ChangeLemmas.{change-measured}
+use Rattle.sql_measure_laws.proofs.ChosenLemmas.{some_classes}
 use Rattle.sql_measure_laws.proofs.FourLemmas.{uneven_values, lack-known}
 use Rattle.sql_measure_laws.proofs.LackLemmas.{lack-measured}
 
@@ -72,14 +74,16 @@ fd-measured e table s cell r x y held over x_in y_in beyond law =
     let within : IsSubset x w = λ (k : ℕ) m. grind (arith, m) in
     let known = change-known e table s cell r x w held within (some-columns s x y y_in beyond) in
     let keys = broken_values s cell x w r in
+    let apart_x = apart-on e table s cell r held x x_in in
+    let apart_w = apart-on e table s cell r held w both_in in
+    let classes = some_classes s cell r x y apart_x apart_w in
     record {
       result = known.0;
       evaluates = known.1;
       none = both_ways (none-shown known.0.rows keys _ _ known.2) (both_ways (several-none e table s cell r x w held over within both_in) law);
-      numbers = λ m is.
-          known.2
-          ∙ change-measured s cell r x y is.0 (apart-on e table s cell r held x x_in) (apart-on e table s cell r held w both_in)
-          ∙ ap rows_of_measure (sym is.1);
+      measure = measure_by_classes classes;
+      is = (classes, refl);
+      shows = known.2 ∙ change-measured s cell r x y classes apart_x apart_w;
     }
 
 -- ---- multivalued dependencies
@@ -93,14 +97,14 @@ mvd-measured e table s cell r x y held over x_in y_in law =
     let all_in : IsSubset (union x (union right rest)) (below (width_of s)) = λ (k : ℕ) m. let in_x = x_in k in let in_y = y_in k in grind (arith, m, in_x, in_y) in
     let known = lack-known e table s cell r x right rest held in
     let keys = uneven_values s cell x right rest r in
+    let measured = lack-measured s cell r x y x_in y_in (apart-on e table s cell r held) in
     record {
       result = known.0;
       evaluates = known.1;
       none = both_ways (none-shown known.0.rows keys _ _ known.2) (both_ways (unpaired-none e table s cell r x right rest held over all_in) law);
-      numbers = λ m is.
-          known.2
-          ∙ lack-measured s cell r x y is.0 x_in y_in (apart-on e table s cell r held)
-          ∙ ap rows_of_measure (sym is.1);
+      measure = measured.0;
+      is = measured.1;
+      shows = known.2 ∙ measured.2;
     }
 
 -- ---- dependencies

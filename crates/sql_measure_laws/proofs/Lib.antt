@@ -6,6 +6,7 @@ pub mod NumberLemmas
 pub mod FlagLemmas
 pub mod NumberedLemmas
 pub mod ClassLemmas
+pub mod ChosenLemmas
 pub mod ChangeLemmas
 pub mod FourLemmas
 pub mod LackLemmas
