@@ -1,6 +1,6 @@
 -- The numbers that the query of a functional dependency gives are those of the measure.
 use Rattle.std.proofs.Common.{◌≡◌, ◌≢◌, ◌<◌, ◌≤◌, ◌+◌, ◌==◌, ◌&&◌, not, ℕ, Bool, true, false, List, [], ◌∷◌, length, map, filter, refl, sym, ap, subst, ◌∙◌, inl, inr, arith}
-use Rattle.std.proofs.lemmas.Bool.{cases_Bool, true≢false, eqb-true, eq-eqb, ltb-true}
+use Rattle.std.proofs.lemmas.Bool.{cases_Bool, true≢false, and_parts, eqb-true, eq-eqb, ltb-true}
 use Rattle.std.proofs.lemmas.Bool.Decides.{nat_tests}
 use Rattle.std.specs.Prelude.{ℤ, pos, ◌-ℤ◌, ◌+ℤ◌, nat_lt, Contains, if◌then◌else◌}
 use lib.IntN.{pos-+ℤ-pos, +ℤ-neg_ℤ_cancel}
@@ -35,6 +35,10 @@ use Rattle.sql_measure_laws.proofs.GroupedLemmas.{rows_if, pos-less, rows-stated
 use Rattle.sql_measure_laws.proofs.ClassLemmas.{stands, is_broken, rows_in, largest_in, broken_values, change_rows}
 use Rattle.sql_measure_laws.proofs.NumberLemmas.{AreSeparate, number_in, same-number, key-of-row, number-of-key, row-of-tuple, stands-rows}
 use Rattle.sql_measure_laws.proofs.FlagLemmas.{passing-sum, passing-count, passing-rows}
+
+not_true : (b : Bool) → not b ≡ true → b ≡ false
+not_true true e = absurd (true≢false (sym e))
+not_true false e = refl
 
 module _ (s : Schema) (cell : Cells) (r : Relation) (x y : Attributes) (c : Classes x y r)
     (apart_x : AreSeparate s cell r x) (apart_w : AreSeparate s cell r (union x y)) where
@@ -235,8 +239,9 @@ module _ (s : Schema) (cell : Cells) (r : Relation) (x y : Attributes) (c : Clas
       let (j, j_in, j_group, j_class) = of_h.within in
       count_below-none (length c.groups) (in_group (λ (i : ℕ). not (stays i)) (number_at c.groups) h) (λ i low. elim (cases_Bool (in_group (λ (k : ℕ). not (stays k)) (number_at c.groups) h i)) [
         | inl there ↦
-            let i_group : number_at c.groups i ≡ h = grind (arith, nat_tests, there) in
-            let i_out : stays i ≡ false = grind (arith, nat_tests, there) in
+            let parts = and_parts (not (stays i)) (number_at c.groups i == h) there in
+            let i_group : number_at c.groups i ≡ h = eqb-true _ _ parts.1 in
+            let i_out : stays i ≡ false = not_true (stays i) parts.0 in
             let differ : number_at c.classes i ≡ number_at c.classes j → ⊥ =
             λ same. true≢false (sym (eq-eqb (number_at c.classes i) (chosen (number_at c.groups i)) (same ∙ j_class ∙ ap chosen (sym i_group))) ∙ i_out) in
             absurd (true≢false (sym ((c.flags.told h (flag_in h h_in)).1 (i, j, low, j_in, i_group, j_group, differ)) ∙ unset))

@@ -55,7 +55,9 @@ total-by-groups f group m (suc n) low =
     let rest = total-by-groups f group m n (λ k k_in. low k (omega (arith, k_in))) in
     let here = total-one (group n) (f n) m (low n (omega arith)) in
     let both = total-sum (λ (h : ℕ). total (λ (k : ℕ). when (group k == h) (f k)) n) (λ (h : ℕ). when (group n == h) (f n)) m in
-    omega (arith, rest, here, both)
+    let sums : total f n + f n ≡ total (λ (h : ℕ). total (λ (k : ℕ). when (group k == h) (f k)) n) m + total (λ (h : ℕ). when (group n == h) (f n)) m =
+    omega (arith, rest, here) in
+    sums ∙ sym both
 
 -- a count times a number
 one_more : (m n : ℕ) → (m + 1) * n ≡ m * n + n
