@@ -17,7 +17,7 @@ use Rattle.sql_migrate_laws.specs.Moved.{HasMoved, LeavesOthers}
 use Rattle.sql_migrate_laws.specs.Ending.{IsSoundRun}
 use Rattle.sql_check_laws.specs.HeldRelations.{Holds, CastsIntegers}
 use Rattle.sql_check_laws.specs.CheckedRules.{NoBreachShown, RulesHold, NothingShown}
-use Rattle.sql_measure_laws.specs.Measured.{TellsMeasures}
+use Rattle.sql_measure_laws.specs.Measured.{MeasuresRules}
 use Rattle.sql_scripts.specs.Checking.{check_text, NothingBreaks}
 use Rattle.sql_scripts.specs.Measuring.{measure_text}
 use Rattle.sql_scripts.specs.Migrating.{migrate_text, FillsTables, ViewIsTable}
@@ -75,18 +75,20 @@ abbrev pub ScriptsCheck : Schema → List ℕ → Allowed
 ScriptsCheck schema name = WithTableName name (AsksTable schema name)
 
 -- ---- measuring
--- what the queries of a script for a table count: where an engine holds a relation as this table, its tuples as often
--- as they stand, the query of each dependency ends without an error; it gives no row exactly where the relation obeys
--- the dependency, and else one row with the numbers of the relation's measure against it
+-- what the queries of a script for a table count: where an engine holds a relation as this table, its
+-- tuples as often as they stand, the query of each dependency ends without an error; it gives no row
+-- exactly where the relation obeys the dependency, and else one row with the numbers of the
+-- relation's measure against it
 abbrev pub CountsBreaches : Schema → List ℕ → Type 0
 CountsBreaches schema table =
     (e : Engine) (cell : ℕ → List ℕ → Cell) (r : Relation) → Holds e table schema cell r
-    → IsOver (width_of schema) r → TellsMeasures e schema table r
+    → IsOver (width_of schema) r → MeasuresRules e schema table r
 
 -- yes, with the queries that count what breaks each rule
 abbrev pub MeasuresTable : Schema → List ℕ → Allowed
 MeasuresTable schema name response =
-    CountsBreaches schema (quoted_table name) × Says Yes (measure_text schema (quoted_table name)) response
+    CountsBreaches schema (quoted_table name)
+    × Says Yes (measure_text schema (quoted_table name)) response
 
 abbrev pub ScriptsMeasure : Schema → List ℕ → Allowed
 ScriptsMeasure schema name = WithTableName name (MeasuresTable schema name)

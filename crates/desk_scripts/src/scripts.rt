@@ -30,7 +30,11 @@ pub fn script_check(alloc: Global, schema: &Schema, name: &Argument) -> Result<R
 }
 
 /// The queries that count what breaks each rule in a table.
-pub fn script_measure(alloc: Global, schema: &Schema, name: &Argument) -> Result<Response, EarlyExit>
+pub fn script_measure(
+    alloc: Global,
+    schema: &Schema,
+    name: &Argument,
+) -> Result<Response, EarlyExit>
     ensures response { RespondsAs (ScriptsMeasure schema.now name.now) result }
 {
     match test_name(alloc, name) {

@@ -57,7 +57,8 @@ abbrev pub total : List Cell → Option Cell
 total [] = Some missing
 total (c ∷ cs) = option_and_then (added c) (total cs)
 
--- the greater of two values; which of two texts is greater is the engine's own, so of a text it is an error
+-- the greater of two values; which of two texts is greater is the engine's own, so of a text it is an
+-- error
 abbrev pub greater : Cell → Cell → Option Cell
 greater (number m) (number n) = Some (number (if lt_z m n then n else m))
 greater (number m) missing = Some (number m)

@@ -1,2 +1,2 @@
--- The definitions of sql_measure_laws: what the queries tell of a relation.
+-- The definitions of sql_measure_laws: what the queries show of a relation.
 pub mod Measured

@@ -4,9 +4,10 @@
 //!
 //! Promises: over a table that holds a relation the query of a dependency ends without an error; it
 //! gives no row exactly where the relation obeys the dependency, and else one row with the numbers
-//! that `row_measures` defines: broken groups, rows in them, and how many must change or are missing.
+//! that `row_measures` defines: broken groups, rows in them, and how many must change or are
+//! missing.
 #![tactic(auto)]
 
 mod laws;
 
-pub use laws::queries_tell_measures;
+pub use laws::queries_count_breaches;

@@ -14,9 +14,10 @@ measured_rule_text s table line d = rule_line s line d (breaches_text (measure_q
 
 -- each rule, in the order of the file
 abbrev pub measured_rules_text : Schema → List ℕ → List ℕ
-measured_rules_text s table = flat_map (λ rule. measured_rule_text s table rule.0 rule.1) (rules_of s)
+measured_rules_text s table =
+    flat_map (λ rule. measured_rule_text s table rule.0 rule.1) (rules_of s)
 
 abbrev pub measure_text : Schema → List ℕ → List ℕ
 measure_text s table =
-    codes "-- where a rule is broken, its query gives one row: broken groups, rows in them, and how many must change or are missing\n"
-    ++ measured_rules_text s table
+    codes "-- where a rule is broken, its query gives one row: broken groups, rows in them, "
+    ++ codes "and how many must change or are missing\n" ++ measured_rules_text s table

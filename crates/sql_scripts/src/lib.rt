@@ -15,9 +15,11 @@
 
 mod checking;
 mod columns;
+mod counted;
 mod integers;
 mod joining;
 mod listing;
+mod measured;
 mod measuring;
 mod migrating;
 mod missing;
