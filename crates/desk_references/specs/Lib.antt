@@ -2,4 +2,5 @@
 -- command state them, and the check of one reference.
 pub mod Findings
 pub mod ColumnLists
+pub mod ColumnSteps
 pub mod Checks
