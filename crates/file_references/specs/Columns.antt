@@ -26,7 +26,7 @@ abbrev pub HasMatch : Relation → List ℕ → Tuple → Type 0
 HasMatch r columns values = (t : Tuple) × Contains r t × (values_on columns t ≡ values)
 
 -- no file
-abbrev no_file : HeadedRows
+abbrev pub no_file : HeadedRows
 no_file = record { names = []; rows = [] }
 
 -- the file at a position
