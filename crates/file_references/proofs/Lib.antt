@@ -4,6 +4,7 @@ pub mod SetLemmas
 pub mod AgreeLemmas
 pub mod AddLemmas
 pub mod TargetLemmas
+pub mod KnowsLemmas
 pub mod SourceLemmas
 pub mod OrderLemmas
 pub mod UnmatchedLemmas

@@ -129,8 +129,10 @@ module _ (n : ℕ) (r : Relation) (shared : Attributes) (size : ℕ) (sets keys 
     differ = differ;
   }
 
-  -- ---- what is known then
-  pub known_key : IsRowKey n r x → KnowsKeys n r shared size (sets ++ s ∷ []) (keys ++ s ∷ [])
+-- ---- what is known then
+module _ (n : ℕ) (r : Relation) (shared : Attributes) (size : ℕ) (sets keys : List AttrSet)
+    (known : KnowsKeys n r shared size sets keys) (s : AttrSet) where
+  pub known_key : IsRowKey n r (attributes s) → KnowsKeys n r shared size (sets ++ s ∷ []) (keys ++ s ∷ [])
   known_key is = record {
     each = All-push (λ (k : AttrSet). IsRowKey n r (attributes k)) keys s known.each is;
     all = λ y seen key. ⊎_elim
@@ -144,7 +146,7 @@ module _ (n : ℕ) (r : Relation) (shared : Attributes) (size : ℕ) (sets keys 
         seen;
   }
 
-  pub known_other : (IsWholeKey r (members_below n x) → Any (λ (k : AttrSet). IsSubset (attributes k) x) keys)
+  pub known_other : (IsWholeKey r (members_below n (attributes s)) → Any (λ (k : AttrSet). IsSubset (attributes k) (attributes s)) keys)
       → KnowsKeys n r shared size (sets ++ s ∷ []) keys
   known_other has = record {
     each = known.each;
@@ -153,7 +155,7 @@ module _ (n : ℕ) (r : Relation) (shared : Attributes) (size : ℕ) (sets keys 
         (λ (i, t, t_low, t_at, same). ⊎_elim
         (λ earlier. known.all y (inr (Any-from (λ (k : AttrSet). attributes k ≡ y) sets t earlier same)) key)
         (λ (last : s ≡ t).
-        let is : x ≡ y = ap attributes last ∙ same in
+        let is : attributes s ≡ y = ap attributes last ∙ same in
         subst (λ (z : Attributes). Any (λ (k : AttrSet). IsSubset (attributes k) z) keys) is
         (has (subst (λ (z : Attributes). IsWholeKey r (members_below n z)) (sym is) key)))
         (Contains-push_cases sets s t (i, t_low, t_at)))
