@@ -15,7 +15,9 @@ use Rattle.dep_model.proofs.SchemeLemmas.{length-members_below}
 use Rattle.headed_rows.specs.Headings.{HeadedRows}
 use Rattle.schema_model.specs.Names.{same_name}
 use Rattle.schema_model.specs.Schemas.{attribute_named}
+use Rattle.row_store.specs.Rows.{row_at}
 use Rattle.table_join.specs.Lent.{tuples_of}
+use Rattle.file_references.proofs.ValueLemmas.{row_in, row_of}
 
 -- a candidate whose values are all there is a reference
 pub is_reference : (files : List HeadedRows) (file : ℕ) (columns : List ℕ) (target : Target) → IsTargetOf files target
@@ -90,3 +92,26 @@ not_named names others columns key i low none named =
     let here = AllZip-get_or (λ (column k : ℕ). attribute_named names (name_at others k) ≡ Some column) columns key i 0 0 named
     (omega (arith, low, length_all_zip (λ (column k : ℕ). attribute_named names (name_at others k) ≡ Some column) columns key named)) in
     let wrong = sym none ∙ here in cc
+
+-- ---- rows whose values are all among others
+pub all_are : (r : Relation) (columns : List ℕ) (values : Relation) (i : ℕ) → length r ≡ i
+    → ((j : ℕ) → j < i → misses_none columns (row_at r j) ≡ true → Contains values (values_on columns (row_at r j)))
+    → ((j : ℕ) × (j < i) × (misses_none columns (row_at r j) ≡ true)) → AllAre r columns values
+all_are r columns values i all within (k, k_low, k_whole) = record {
+  within = λ t t_in whole.
+      let (j, low, at) = row_of r t t_in in
+      subst (λ (u : Tuple). Contains values (values_on columns u)) at
+      (within j (omega (arith, low, all)) (ap (misses_none columns) at ∙ whole));
+  some_row = (row_at r k, row_in r k (omega (arith, k_low, all)), k_whole);
+}
+
+pub one_is_not : (r : Relation) (columns : List ℕ) (values : Relation) (i : ℕ) → i < length r → misses_none columns (row_at r i) ≡ true
+    → (Contains values (values_on columns (row_at r i)) → ⊥) → AllAre r columns values → ⊥
+one_is_not r columns values i low whole lacks all = lacks (all.within (row_at r i) (row_in r i low) whole)
+
+pub none_is_whole : (r : Relation) (columns : List ℕ) (values : Relation) (i : ℕ) → length r ≡ i
+    → ((j : ℕ) → j < i → misses_none columns (row_at r j) ≡ true → ⊥) → AllAre r columns values → ⊥
+none_is_whole r columns values i all none are =
+    let (t, t_in, whole) = are.some_row in
+    let (j, low, at) = row_of r t t_in in
+    none j (omega (arith, low, all)) (ap (misses_none columns) at ∙ whole)

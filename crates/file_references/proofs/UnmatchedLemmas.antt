@@ -1,15 +1,21 @@
 -- Rows without a match.
 use Rattle.std.specs.Prelude.{◌↔◌, Any, Contains}
-use Rattle.std.specs.List.{list_any}
-use Rattle.std.proofs.Common.{inl, inr, ◌≡◌, ◌+◌, ◌<◌, ◌&&◌, ℕ, Bool, true, false, true≢false, not, List, [], ◌∷◌, ◌++◌, length, map, take, get_or, sym, ap, subst, refl, ◌∙◌, arith}
+use Rattle.std.specs.List.{list_any, position_or_len}
+use Rattle.std.specs.declared.alloc.Global.{Global}
+use Rattle.std.proofs.Common.{inl, inr, ◌≡◌, ◌+◌, ◌<◌, ◌&&◌, ℕ, Bool, true, false, true≢false, not, List, [], ◌∷◌, ◌++◌, length, map, take, get_or, Bor, Vec, sym, ap, subst, refl, ◌∙◌, arith}
 use Rattle.std.proofs.lemmas.Bool.{cases_Bool}
 use Rattle.std.proofs.lemmas.List.Folds.{Any-from_list_any, list_any-from_Any}
 use Rattle.attr_sets.proofs.AttributesLemmas.{same_truth}
 use Rattle.dep_model.specs.Projections.{members_below}
-use Rattle.dep_model.specs.Tuples.{Tuple, Relation, same_tuple}
-use Rattle.dep_model.proofs.DistinctLemmas.{same_tuple-decides}
+use Rattle.dep_model.specs.Tuples.{Tuple, Relation, distinct_tuples, same_tuple}
+use Rattle.dep_model.proofs.DistinctLemmas.{distinct_tuples-from, distinct_tuples-to, same_tuple-decides}
+use Rattle.dep_model.proofs.ListLemmas.{Contains-map, map-member}
 use Rattle.dep_model.proofs.SchemeLemmas.{members_below-no_more, members_below-none, members_below-one_more}
+use Rattle.indexmap.specs.IndexSet.{insert_key}
+use Rattle.row_groups.specs.Pairs.{Gets}
 use Rattle.row_store.specs.Rows.{row_at}
+use Rattle.table_join.specs.Lent.{lent_values, tuples_of}
+use Rattle.table_join.proofs.MatchLemmas.{distinct_next, lent_gets, same_lent}
 use Rattle.file_references.specs.Columns.{HasMatch, misses_none, values_on}
 use Rattle.file_references.specs.Keys.{AreValues}
 use Rattle.file_references.specs.Matches.{has_match, is_unmatched, unmatched_rows}
@@ -82,3 +88,24 @@ all_included r x s k includes = none_of (unmatched_rows r x s k) (λ i has.
 -- the rows that are found are rows
 pub unmatched_low : (r : Relation) (x : List ℕ) (s : Relation) (k : List ℕ) (i : ℕ) → Contains (unmatched_rows r x s k) i → i < length r
 unmatched_low r x s k i has = (member_of (length r) (λ j. is_unmatched x s k (row_at r j)) i has).0
+
+-- ---- the values of rows, each once
+pub values_all : (r : Relation) (columns : List ℕ) (values : Relation) → values ≡ distinct_tuples (map (values_on columns) r) → AreValues r columns values
+values_all r columns values is v = (
+  λ has.
+      let (t, t_in, at) = map-member (values_on columns) r v
+      (distinct_tuples-to (map (values_on columns) r) v (subst (λ (vs : Relation). Contains vs v) is has)) in
+      (t, t_in, at),
+  λ (t, t_in, at). subst (λ (vs : Relation). Contains vs v) (sym is)
+      (distinct_tuples-from (map (values_on columns) r) v (subst (Contains (map (values_on columns) r)) at (Contains-map (values_on columns) r t t_in))),
+)
+
+-- one list of values more
+pub values_more : (listed : Relation) (i : ℕ) (keys after : List (Vec (Bor (List ℕ)) Global)) (key : Vec (Bor (List ℕ)) Global) (v : Tuple)
+    → tuples_of keys ≡ distinct_tuples (take i listed) → i < length listed → get_or listed i [] ≡ v → lent_values key.items ≡ v
+    → after ≡ insert_key same_lent keys key → tuples_of after ≡ distinct_tuples (take (i + 1) listed)
+values_more listed i keys after key v before low at read inserted =
+    let place : ℕ = position_or_len (same_lent key) keys in
+    distinct_next listed i (tuples_of keys) (tuples_of after) place before low
+    (subst (λ (t : Tuple). Gets t (tuples_of keys) (tuples_of after) place) (read ∙ sym at)
+    (lent_gets keys after key place inserted refl))
