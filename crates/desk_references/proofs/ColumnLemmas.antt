@@ -189,3 +189,14 @@ module _ (names : List (List ℕ)) (before : List Mark) (columns : List ℕ) (na
                 of_word why (inl (w, inl (inr (same, h)))) = never_twice h
                 of_word why (inl (w, inr (same, h))) = omega (arith, h, size, room)
                 of_word why (inr (same, no)) = true≢false (sym word ∙ no)
+
+-- ---- names of a list
+pub self : (name : List ℕ) → same_name name name ≡ true
+self name = name_one name name refl
+
+-- a name of a list is named at some position
+pub known_name : (names : List (List ℕ)) (word : List ℕ) (k : ℕ) → k < length names → get_or names k [] ≡ word
+    → (p : ℕ) × (attribute_named names word ≡ Some p)
+known_name names word k inside is =
+    some_value (attribute_named names word) (passes_somewhere (λ (name : List ℕ). same_name name word) names k [] inside
+    (ap (λ (name : List ℕ). same_name name word) is ∙ self word))

@@ -1,2 +1,3 @@
 mod ColumnLemmas
+mod PrintedLemmas
 pub mod ReadingLemmas
