@@ -1,19 +1,23 @@
 -- References in their order: what is sorted, each once.
-use Rattle.std.specs.Prelude.{All, AllPairs}
-use Rattle.std.specs.Cmp.{IsTotalOrder}
+use Rattle.std.specs.Prelude.{All, AllPairs, Contains}
+use Rattle.std.specs.List.{dedup}
+use Rattle.std.specs.Cmp.{IsEquivalence, IsTotalOrder}
 use Rattle.std.specs.Cmp.Lexicographic.{pointwise, slice_cmp}
-use Rattle.std.specs.List.Sorted.{IsStrictlySortedBy}
+use Rattle.std.specs.List.Sorted.{IsPermutation, IsSorted, IsStrictlySortedBy}
 use Rattle.std.specs.Ordering.{eq_by_cmp, nat_cmp, ordering_then}
-use Rattle.std.proofs.Common.{inl, inr, ◌≡◌, ◌<◌, ◌⊎◌, ◌&&◌, ◌==◌, ℕ, Bool, true, false, nat_eq, cond, nat_lt, List, [], ◌∷◌, map, Ordering, Less, Equal, Greater, is_eq, refl, sym, ap, subst, ◌∙◌, ⊎_elim, arith}
-use Rattle.std.proofs.lemmas.Bool.{cases_lt, cases_order}
+use Rattle.std.proofs.Common.{inl, inr, ◌≡◌, ◌<◌, ◌⊎◌, ◌&&◌, ◌==◌, ℕ, Bool, true, false, nat_eq, cond, nat_lt, List, [], ◌∷◌, length, map, Ordering, Less, Equal, Greater, is_eq, refl, sym, ap, subst, ◌∙◌, ⊎_elim, arith}
+use Rattle.std.proofs.lemmas.Bool.{and_parts, cases_lt, cases_order, eqb-true}
 use Rattle.std.proofs.lemmas.Bool.Decides.{nat_tests}
-use Rattle.std.proofs.lemmas.Cmp.{nat_cmp_total, nat_list_cmp_total, on_total, ranked, then_total}
+use Rattle.std.proofs.lemmas.Cmp.{and_equiv, nat_cmp_total, nat_eq_equiv, nat_list_cmp_total, nat_list_eq_equiv, on_equiv, on_total, then_total}
 use Rattle.std.proofs.lemmas.List.Elements.{All-from_recursion}
-use Rattle.std.proofs.lemmas.List.Kept.{AllPairs-cons}
+use Rattle.std.proofs.lemmas.List.Kept.{AllPairs-cons, Any-dedup, Contains-from_dedup, IsStrictlySortedBy-dedup}
+use Rattle.std.proofs.lemmas.List.Sorted.{Contains-permutation, IsPermutation-sym}
+use Rattle.dep_model.proofs.ListLemmas.{All-members, Contains-map, map-member}
 use Rattle.dep_model.proofs.PairLemmas.{no_pairs, pairs_map}
-use Rattle.file_references.specs.Finds.{reference_of}
-use Rattle.file_references.specs.References.{AreColumnsBefore, IsListBefore, Precedes, Reference}
+use Rattle.file_references.specs.Finds.{Adds, reference_of}
+use Rattle.file_references.specs.References.{AreAllReferences, AreColumnsBefore, IsListBefore, IsReference, Precedes, Reference}
 use Rattle.file_references.specs.declared.reference.FoundReference.{FoundReference}
+use Rattle.headed_rows.specs.Headings.{HeadedRows}
 
 -- the order of the code
 abbrev pub order : FoundReference → FoundReference → Ordering
@@ -129,3 +133,55 @@ all_precede xs sorted = pairs_map Precedes reference_of xs (pairs xs sorted)
     pairs (y ∷ ys) h =
         AllPairs-cons (λ (a b : FoundReference). Precedes (reference_of a) (reference_of b)) y ys
         (λ i d l. precedes y _ (All-from_recursion (λ (z : FoundReference). order y z ≡ Less) ys h.0 i d l)) (pairs ys h.1)
+
+-- ---- each once
+pub equivalence : IsEquivalence equal
+equivalence =
+    and_equiv (on_equiv (λ (x : FoundReference). x.file) nat_eq_equiv)
+    (and_equiv (on_equiv (λ (x : FoundReference). x.columns.items) nat_list_eq_equiv)
+    (and_equiv (on_equiv (λ (x : FoundReference). x.target) nat_eq_equiv)
+    (on_equiv (λ (x : FoundReference). x.key.items) nat_list_eq_equiv)))
+
+same_lists : (xs ys : List ℕ) → pointwise nat_eq xs ys ≡ true → xs ≡ ys
+same_lists [] [] h = refl
+same_lists [] (y ∷ ys) h = cc
+same_lists (x ∷ xs) [] h = cc
+same_lists (x ∷ xs) (y ∷ ys) h =
+    let both = and_parts (nat_eq x y) (pointwise nat_eq xs ys) h in
+    ap (λ (z : ℕ). z ∷ xs) (eqb-true x y both.0) ∙ ap (λ (zs : List ℕ). y ∷ zs) (same_lists xs ys both.1)
+
+pub equal_same : (x y : FoundReference) → equal x y ≡ true → reference_of x ≡ reference_of y
+equal_same x y h =
+    let first = and_parts (x.file == y.file) _ h in
+    let second = and_parts (pointwise nat_eq x.columns.items y.columns.items) _ first.1 in
+    let third = and_parts (x.target == y.target) (pointwise nat_eq x.key.items y.key.items) second.1 in
+    let file : x.file ≡ y.file = eqb-true x.file y.file first.0 in
+    let columns : x.columns.items ≡ y.columns.items = same_lists x.columns.items y.columns.items second.0 in
+    let target : x.target ≡ y.target = eqb-true x.target y.target third.0 in
+    let key : x.key.items ≡ y.key.items = same_lists x.key.items y.key.items third.1 in
+    (λ i. record { file = file i; columns = columns i; target = target i; key = key i })
+
+-- what was found, sorted and each once, is all there is
+pub all_found : (files : List HeadedRows) (found sorted once : List FoundReference) → IsPermutation found sorted → IsSorted order sorted
+    → once ≡ dedup equal sorted → Adds files (λ (ref : Reference). ref.target < length files) [] (map reference_of found)
+    → AreAllReferences files (map reference_of once)
+all_found files found sorted once moved in_order is adds = record {
+  each = All-members (IsReference files) (map reference_of once) each;
+  all = all;
+  ascending = all_precede once (subst (IsStrictlySortedBy order) (sym is) (IsStrictlySortedBy-dedup total ties sorted in_order));
+}
+  where
+    each : (ref : Reference) → Contains (map reference_of once) ref → IsReference files ref
+    each ref has =
+        let (x, x_in, at) = map-member reference_of once ref has in
+        let in_sorted : Contains sorted x = Contains-from_dedup equal sorted x (subst (λ (xs : List FoundReference). Contains xs x) is x_in) in
+        let in_found : Contains found x = Contains-permutation sorted found x (IsPermutation-sym found sorted moved) in_sorted in
+        ⊎_elim (λ none. absurd (omega (arith, none.1))) (λ of. of)
+        (adds.only ref (subst (Contains (map reference_of found)) at (Contains-map reference_of found x in_found)))
+
+    all : (ref : Reference) → IsReference files ref → Contains (map reference_of once) ref
+    all ref of =
+        let (x, x_in, at) = map-member reference_of found ref (adds.all ref of of.candidate.target_file) in
+        let (i, y, low, y_at, same) = Any-dedup equivalence sorted x (Contains-permutation found sorted x moved x_in) in
+        subst (Contains (map reference_of once)) (sym (equal_same x y same) ∙ at)
+        (Contains-map reference_of once y (subst (λ (xs : List FoundReference). Contains xs y) (sym is) (i, low, y_at)))
