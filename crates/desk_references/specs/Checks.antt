@@ -33,8 +33,8 @@ abbrev pub as_many_text : List ℕ
 as_many_text = line (codes "refused: as many names in both are needed")
 
 -- ---- answers
--- yes where the values of each row that misses none of them are those of a row of the other file, else the rows for
--- which they are not
+-- yes where the values of each row that misses none of them are those of a row of the other file, else
+-- the rows for which they are not
 abbrev pub JudgesReference : HeadedRows → List ℕ → HeadedRows → List ℕ → Allowed
 JudgesReference one x other k response =
     (Includes one.rows x other.rows k × Says Yes all_matched_text response)

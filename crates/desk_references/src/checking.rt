@@ -23,9 +23,9 @@ use row_store::{FlatValues, Hashing, Rows, take_row};
 use schema_model::Name;
 use std::alloc::Global;
 
-/// Whether the values of each row of a file in some columns, where it misses none of them, are those of a row of another
-/// file in as many columns; and where they are not, the rows for which they are not. The columns are those that two
-/// words state, paired in their order.
+/// Whether the values of each row of a file in some columns, where it misses none of them, are those of
+/// a row of another file in as many columns; and where they are not, the rows for which they are not.
+/// The columns are those that two words state, paired in their order.
 pub fn check_references(
     alloc: Global,
     hashing: Hashing,
@@ -71,7 +71,8 @@ fn unpaired_exit(alloc: Global) -> EarlyExit
     )
 }
 
-// Whether the values at columns are those of a row of the other file, and else the rows for which they are not.
+// Whether the values at columns are those of a row of the other file, and else the rows for which they
+// are not.
 fn judge_reference(
     alloc: Global,
     hashing: Hashing,

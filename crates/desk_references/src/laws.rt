@@ -7,8 +7,8 @@ ghost use Rattle.desk_references.specs.declared.columns.TheConstants.{MOST_LISTE
 ghost use Rattle.headed_rows.specs.Headers.{IsColumnHeader};
 ghost use Rattle.schema_printer.specs.Printing.{side_text};
 
-/// What is printed of columns of a file, none twice and not too many, is a text that names them: so each side of a line of
-/// `discover references` is a word for `check references`.
+/// What is printed of columns of a file, none twice and not too many, is a text that names them: so each
+/// side of a line of `discover references` is a word for `check references`.
 pub fn printed_columns_are_read_back()
     ensures columns { (header : List (List ℕ)) (columns : List ℕ) → IsColumnHeader header
         → All (λ (k : ℕ). k < length header) columns → 0 < length columns → length columns ≤ MOST_LISTED_COLUMNS

@@ -1,5 +1,5 @@
--- Rows at lists of columns, and missing values: for inclusion dependencies (`References`) and rows without a match
--- (`Matches`).
+-- Rows at lists of columns, and missing values: for inclusion dependencies (`References`) and rows
+-- without a match (`Matches`).
 use Rattle.std.specs.Prelude.{◌≡◌, ℕ, Bool, true, List, [], length, map, nat_lt, slice_index_or, Contains}
 use Rattle.std.specs.List.{list_all}
 use Rattle.dep_model.specs.Tuples.{Tuple, Relation, value_at}

@@ -1,5 +1,5 @@
--- How references are found, one target after the other: for `all_references` and the functions below it. `Desk` does not
--- cite it.
+-- How references are found, one target after the other: for `all_references` and the functions below it.
+-- `Desk` does not cite it.
 use Rattle.std.specs.Prelude.{◌≡◌, ◌<◌, ◌⊎◌, ℕ, Some, List, length, map, Contains}
 use Rattle.std.specs.List.{AllZip}
 use Rattle.attr_sets.specs.Attributes.{Attributes, count_below}

@@ -26,7 +26,8 @@ pub record HoldsKey (r : Relation) (columns : List ℕ) (values : Relation) : Ty
   pub key : IsWholeKey r columns
   pub values : AreValues r columns values
 
--- so it is for the first i rows: each list of values is kept with a row that has it, and whoever has it is that row
+-- so it is for the first i rows: each list of values is kept with a row that has it, and whoever has it
+-- is that row
 pub record HoldsKeySoFar (r : Relation) (columns : List ℕ) (i : ℕ) (values : Relation) (firsts : List ℕ)
     : Type 0 where
   pub one_each : length firsts ≡ length values
@@ -72,8 +73,8 @@ pub record AreLooked (n : ℕ) (shared : Attributes) (size : ℕ) (sets : List A
   pub all : (x : Attributes) → IsLooked n shared size x → count_below x MOST_ATTRIBUTES ≡ size
       → Any (λ s. attributes s ≡ x) sets
 
--- minimal keys of rows with n columns. Each set of at most so many columns, and each of some others, that is a key
--- without missing values has one of them within it
+-- minimal keys of rows with n columns. Each set of at most so many columns, and each of some others,
+-- that is a key without missing values has one of them within it
 pub record KnowsKeys (n : ℕ) (r : Relation) (shared : Attributes) (size : ℕ) (sets keys : List AttrSet)
     : Type 0 where
   pub each : All (λ k. IsRowKey n r (attributes k)) keys

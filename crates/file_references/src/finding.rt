@@ -12,14 +12,14 @@ use headed_rows::Headed;
 use row_store::Hashing;
 use std::alloc::Global;
 
-/// The references between files: each inclusion dependency of columns of a file on a minimal key of at most
-/// `MOST_KEY_COLUMNS` columns, without missing values, of a file with two different rows, where rows that miss a value
-/// are left out and some row misses none. The source is any other column for a key of one column, and for one of several
-/// the columns of the same names in another file.
+/// The references between files: each inclusion dependency of columns of a file on a minimal key of at
+/// most `MOST_KEY_COLUMNS` columns, without missing values, of a file with two different rows, where
+/// rows that miss a value are left out and some row misses none. The source is any other column for a
+/// key of one column, and for one of several the columns of the same names in another file.
 ///
-/// For each key the values of its rows are looked up, and a source is left at its first row without a match: so no two
-/// lists of columns are compared further than they can hold (as in SPIDER, Bauckmann, Leser, Naumann and Tietz 2007, and
-/// BINDER, Papenbrock, Kruse, Quiané-Ruiz and Naumann 2015).
+/// For each key the values of its rows are looked up, and a source is left at its first row without a
+/// match: so no two lists of columns are compared further than they can hold (as in SPIDER, Bauckmann,
+/// Leser, Naumann and Tietz 2007, and BINDER, Papenbrock, Kruse, Quiané-Ruiz and Naumann 2015).
 pub fn all_references(
     alloc: Global,
     hashing: Hashing,

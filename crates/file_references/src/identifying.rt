@@ -33,8 +33,8 @@ pub fn key_values<'a>(
     Ok(Some(values))
 }
 
-// Adds the values of one row more, which are kept with the first row that has them. It answers whether they can still be
-// those of a key: none is missing, and no other row has them.
+// Adds the values of one row more, which are kept with the first row that has them. It answers whether
+// they can still be those of a key: none is missing, and no other row has them.
 fn add_row<'a>(
     alloc: Global,
     rows: &'a Rows,

@@ -1,8 +1,8 @@
-//! References between files: inclusion dependencies of columns of a file on a minimal key of a file, and the rows that
-//! have no match.
+//! References between files: inclusion dependencies of columns of a file on a minimal key of a file, and
+//! the rows that have no match.
 //!
-//! `all_references` finds them all, `rows_without_match` the rows of a file whose values no row of another one has, and
-//! `distinct_values` what some rows have, each once.
+//! `all_references` finds them all, `rows_without_match` the rows of a file whose values no row of
+//! another one has, and `distinct_values` what some rows have, each once.
 //!
 //! Promises: exactly the references, in order; exactly the rows without a match.
 #![tactic(auto)]

@@ -33,8 +33,8 @@ pub struct Target<'a> {
     pub values: IndexSet<Values<'a>, Hashing>,
 }
 
-// Adds the references to keys of one file. A key of several columns is looked for among those alone that another file
-// has too.
+// Adds the references to keys of one file. A key of several columns is looked for among those alone that
+// another file has too.
 pub fn add_references_to(
     alloc: Global,
     hashing: Hashing,
@@ -112,8 +112,8 @@ fn is_shared(files: &[Headed], target: usize, column: usize) -> bool
     false
 }
 
-// Adds the references to those of these sets of columns of a file that are minimal keys without a missing value. The keys
-// among the smaller sets are known.
+// Adds the references to those of these sets of columns of a file that are minimal keys without a
+// missing value. The keys among the smaller sets are known.
 fn add_targets(
     alloc: Global,
     hashing: Hashing,
