@@ -15,8 +15,8 @@ use desk_responses::EarlyExit;
 use headed_rows::Headed;
 use std::alloc::Global;
 
-/// The names and rows of CSV files whose headers name their columns, one after the other, as those of a file of which
-/// the dependencies are looked for.
+/// The names and rows of CSV files whose headers name their columns, one after the other, as those of a
+/// file of which the dependencies are looked for.
 pub fn open_headed_files<F: FileSource>(
     alloc: Global,
     source: &mut F,

@@ -1,5 +1,5 @@
 -- The check of one reference: for `check references`.
-use Rattle.std.specs.Prelude.{◌≡◌, ◌⊎◌, ◌+◌, ℕ, List, [], ◌∷◌, ◌++◌, codes, length, map}
+use Rattle.std.specs.Prelude.{◌≡◌, ◌⊎◌, ◌+◌, ◌==◌, ℕ, List, ◌++◌, codes, length, map, if◌then◌else◌}
 use Rattle.std.specs.Fmt.{decimal}
 use Rattle.csv_text.specs.Rows.{rows_text}
 use Rattle.desk_references.specs.ColumnLists.{WithColumns}
@@ -10,29 +10,31 @@ use Rattle.file_references.specs.Columns.{name_at}
 use Rattle.file_references.specs.Matches.{distinct_values, unmatched_rows}
 use Rattle.file_references.specs.References.{Includes}
 use Rattle.headed_rows.specs.Headings.{HeadedRows}
+use Rattle.row_groups.specs.Numberings.{number_at}
 
 -- ---- texts
 abbrev pub all_matched_text : List ℕ
 all_matched_text = line (codes "every row has its match")
 
 -- how many rows have no match, and the number of the first
-abbrev pub count_text : List ℕ → List ℕ
-count_text [] = []
-count_text (first ∷ []) = codes "1 row has no match, row " ++ decimal (first + 1)
-count_text (first ∷ second ∷ rows) =
-    decimal (length (first ∷ second ∷ rows)) ++ codes " rows have no match, the first is row " ++ decimal (first + 1)
+abbrev pub count_text : ℕ → ℕ → List ℕ
+count_text count first =
+    if count == 1
+    then codes "1 row has no match, row " ++ decimal first
+    else decimal count ++ codes " rows have no match, the first is row " ++ decimal first
 
 -- that, and below it the names of columns and each list of values of these rows, once
 abbrev pub unmatched_text : HeadedRows → List ℕ → List ℕ → List ℕ
 unmatched_text headed columns rows =
-    line (count_text rows) ++ rows_text (map (name_at headed.names) columns) (distinct_values headed.rows columns rows)
+    line (count_text (length rows) (number_at rows 0 + 1))
+    ++ rows_text (map (name_at headed.names) columns) (distinct_values headed.rows columns rows)
 
 abbrev pub as_many_text : List ℕ
 as_many_text = line (codes "refused: as many names in both are needed")
 
 -- ---- answers
--- yes where the values of each row that misses none of them are those of a row of the other file, else the rows for
--- which they are not
+-- yes where the values of each row that misses none of them are those of a row of the other file, else
+-- the rows for which they are not
 abbrev pub JudgesReference : HeadedRows → List ℕ → HeadedRows → List ℕ → Allowed
 JudgesReference one x other k response =
     (Includes one.rows x other.rows k × Says Yes all_matched_text response)

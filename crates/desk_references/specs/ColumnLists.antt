@@ -1,4 +1,5 @@
--- Columns of a file as a word of a command states them, and how such a word is refused: for `check references`.
+-- Columns of a file as a word of a command states them, and how such a word is refused: for `check
+-- references`.
 use Rattle.std.specs.Prelude.{◌≡◌, ◌<◌, ◌≤◌, ◌⊎◌, ℕ, true, false, List, codes, length, map, is_some, Some, AllPairs}
 use Rattle.std.specs.List.{AllZip}
 use Rattle.desk_refusals.specs.Refusals.{refusal_text}
@@ -33,8 +34,8 @@ pub record MeansColumns (names : List (List ℕ)) (text : List ℕ) (columns : L
   pub within_limit : length columns ≤ MOST_LISTED_COLUMNS
   pub apart : AllPairs (λ (one other : ℕ). one ≡ other → ⊥) columns
 
--- what is wrong with a word of such a text after others: as in a set, or one before it is the same name, ASCII case
--- aside, or there are enough before it
+-- what is wrong with a word of such a text after others: as in a set, or one before it is the same name,
+-- ASCII case aside, or there are enough before it
 abbrev pub ColumnDiagnostic : List (List ℕ) → List Mark → Mark → DiagnosticKind → Type 0
 ColumnDiagnostic names before m why =
     (DiagnosesOfWord format.Plain names m why

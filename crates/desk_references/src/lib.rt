@@ -8,7 +8,9 @@
 mod checking;
 mod columns;
 mod finding;
+mod laws;
 
 pub use checking::check_references;
 pub use columns::{MOST_LIST_BYTES, MOST_LISTED_COLUMNS};
 pub use finding::find_references;
+pub use laws::printed_columns_are_read_back;

@@ -1,5 +1,5 @@
--- Rows at lists of columns, and missing values: for inclusion dependencies (`References`) and rows without a match
--- (`Matches`).
+-- Rows at lists of columns, and missing values: for inclusion dependencies (`References`) and rows
+-- without a match (`Matches`).
 use Rattle.std.specs.Prelude.{◌≡◌, ℕ, Bool, true, List, [], length, map, nat_lt, slice_index_or, Contains}
 use Rattle.std.specs.List.{list_all}
 use Rattle.dep_model.specs.Tuples.{Tuple, Relation, value_at}
@@ -26,7 +26,7 @@ abbrev pub HasMatch : Relation → List ℕ → Tuple → Type 0
 HasMatch r columns values = (t : Tuple) × Contains r t × (values_on columns t ≡ values)
 
 -- no file
-abbrev no_file : HeadedRows
+abbrev pub no_file : HeadedRows
 no_file = record { names = []; rows = [] }
 
 -- the file at a position

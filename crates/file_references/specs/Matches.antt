@@ -1,5 +1,5 @@
--- The rows of a file whose values have no match in another: for `rows_without_match`, and for the command that lists
--- them (`desk_references/Checks`).
+-- The rows of a file whose values have no match in another: for `rows_without_match`, and for the
+-- command that lists them (`desk_references/Checks`).
 use Rattle.std.specs.Prelude.{ℕ, Bool, ◌&&◌, not, List, length, map}
 use Rattle.std.specs.List.{list_any}
 use Rattle.dep_model.specs.Projections.{members_below}

@@ -1,5 +1,5 @@
--- Inclusion dependencies (Casanova, Fagin and Papadimitriou 1984) of columns of a file on a minimal key of a file: for
--- `all_references`, and for the command that finds them (`desk_references/Findings`).
+-- Inclusion dependencies (Casanova, Fagin and Papadimitriou 1984) of columns of a file on a minimal key
+-- of a file: for `all_references`, and for the command that finds them (`desk_references/Findings`).
 use Rattle.std.specs.Prelude.{◌≡◌, ◌<◌, ◌≤◌, ◌⊎◌, ℕ, true, List, [], ◌∷◌, length, Some, All, AllPairs, Contains}
 use Rattle.std.specs.List.{AllZip}
 use Rattle.attr_sets.specs.Attributes.{Attributes}
@@ -19,7 +19,8 @@ Includes r x s k = (t : Tuple) → Contains r t → misses_none x t ≡ true →
 abbrev pub HasTwoRows : Relation → Type 0
 HasTwoRows r = (t : Tuple) × (u : Tuple) × Contains r t × Contains r u × (t ≡ u → ⊥)
 
--- of rows with n columns, of which two differ, a minimal key of few columns, ascending, without a missing value
+-- of rows with n columns, of which two differ, a minimal key of few columns, ascending, without a
+-- missing value
 pub record IsTarget (n : ℕ) (r : Relation) (key : List ℕ) : Type 0 where
   pub set : Attributes
   pub columns : key ≡ members_below n set
