@@ -16,10 +16,12 @@ help_text =
     ++ codes "whether the derivation in FILE, by more rules, proves the goal")
     ++ line (codes "desk check rows SCHEMA CSV            "
     ++ codes "whether the rows in CSV are legal, and which break what")
+    ++ line (codes "desk check references CSV NAMES OTHER NAMES2  "
+    ++ codes "whether each row of CSV has its match in OTHER, and which have none")
     ++ line (codes "desk check key SCHEMA SET             whether the set of attributes is a key, and why")
     ++ line (codes "desk check join SCHEMA PLAN           whether the plan in PLAN loses nothing")
     ++ line (codes "desk check form FORM SCHEMA PLAN      "
-    ++ codes "whether each scheme of the plan is in the form: 3nf, bcnf or 4nf")
+    ++ codes "whether each scheme of the plan is in the form: 2nf, 3nf, bcnf or 4nf")
     ++ line (codes "desk check keeps SCHEMA PLAN          whether the plan keeps the functional dependencies")
     ++ line (codes "desk check same SCHEMA OTHER          "
     ++ codes "whether two schemas over the same names say the same")
@@ -32,13 +34,19 @@ help_text =
     ++ line (codes "desk project SCHEMA SET               the functional dependencies inside the set, as a schema")
     ++ line (codes "desk keys SCHEMA                      all keys")
     ++ line (codes "desk keys SCHEMA PLAN                 all keys of each scheme of the plan")
+    ++ line (codes "desk form SCHEMA                      "
+    ++ codes "the normal form of the table of all attributes, and what violates those above it")
+    ++ line (codes "desk form SCHEMA PLAN                 the same of each scheme of the plan")
     ++ line (codes "desk synthesize SCHEMA                a plan in third normal form")
+    ++ line (codes "desk synthesize fewest SCHEMA         "
+    ++ codes "the same with fewest tables: left sides that determine each other share one")
     ++ line (codes "desk split bcnf SCHEMA                a plan in Boyce-Codd normal form")
     ++ line (codes "desk split 4nf SCHEMA                 a plan in fourth normal form")
     ++ line (codes "desk split wide-bcnf SCHEMA           a plan in Boyce-Codd normal form, at any width")
     ++ line (codes "desk exhibit SCHEMA                   rows that obey just what follows from the schema")
     ++ line (codes "desk explain COMMAND                  "
-    ++ codes "reasons above what COMMAND prints: cover, keys, synthesize, split bcnf or split 4nf")
+    ++ codes "reasons above what COMMAND prints: cover, keys, synthesize, synthesize fewest, "
+    ++ codes "split bcnf or split 4nf")
     ++ line (codes "desk measure SCHEMA CSV               how far the rows in CSV are from legal")
     ++ line (codes "desk offences SCHEMA CSV              which rows are at odds, as CSV, a line for each class")
     ++ line (codes "desk offences rows SCHEMA CSV         the same row by row")
@@ -59,6 +67,7 @@ help_text =
     ++ codes "those that hold once at most N rows change, with at most K attributes on the left")
     ++ line (codes "desk discover all CSV                 "
     ++ codes "all functional and multivalued dependencies of at most 10 columns")
+    ++ line (codes "desk discover references CSV..        which columns of the files reference a key of one of them")
     ++ line (codes "desk import csv CSV                   a schema of the columns of CSV, to go on from")
     ++ line (codes "desk import sqlite FILE TABLE         "
     ++ codes "a schema of TABLE, by what sqlite3 prints of a database in FILE")
@@ -66,6 +75,8 @@ help_text =
     ++ line (codes "desk rejoin SCHEMA CSV..              the join of the tables in files")
     ++ line (codes "desk sql check SCHEMA TABLE           "
     ++ codes "queries for the rows of TABLE in a database that break each rule")
+    ++ line (codes "desk sql measure SCHEMA TABLE         "
+    ++ codes "queries that count there what breaks each rule, as measure counts it")
     ++ line (codes "desk sql migrate FORM SCHEMA TABLE    "
     ++ codes "statements that make the tables in the form from TABLE")
     ++ line (codes "desk sql migrate plan SCHEMA PLAN TABLE  the same of the plan")

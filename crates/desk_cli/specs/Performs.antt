@@ -14,6 +14,9 @@ use Rattle.desk_covers.specs.CoverReasons.{ExplainsCover}
 use Rattle.desk_covers.specs.Covering.{GivesCover}
 use Rattle.desk_designs.specs.Decompositions.{Splits, SplitsWide}
 use Rattle.desk_designs.specs.Designs.{WritesForm, WritesPlan}
+use Rattle.desk_designs.specs.FewestReasons.{ExplainsFewest}
+use Rattle.desk_designs.specs.FewestTables.{SynthesizesFewest}
+use Rattle.desk_designs.specs.FormsOfSchemes.{ListsFormOfAll, ListsFormsOfPlan}
 use Rattle.desk_discovery.specs.AllDiscoveries.{FindsAllRules}
 use Rattle.desk_discovery.specs.NearDiscoveries.{FindsNearRules}
 use Rattle.desk_discovery.specs.Discoveries.{FindsRules, FindsSmallRules}
@@ -28,6 +31,7 @@ use Rattle.desk_inputs.specs.FileKinds.{WithFile}
 use Rattle.desk_imports.specs.Columns.{ImportsColumns}
 use Rattle.desk_imports.specs.Imports.{ImportsTable}
 use Rattle.desk_inputs.specs.Headed.{headed_file, imported_file, whole_file}
+use Rattle.desk_inputs.specs.HeadedFiles.{WithHeadedFiles}
 use Rattle.desk_inputs.specs.Sql.{sql_file}
 use Rattle.desk_cli.specs.Help.{help_text, version_text}
 use Rattle.desk_implication.specs.Implication.{DecidesGoal}
@@ -51,12 +55,14 @@ use Rattle.desk_tables.specs.OwnFolders.{Looks, MigratesInto, MigratesPlanInto}
 use Rattle.desk_designs.specs.NormalForms.{JudgesForm}
 use Rattle.desk_inputs.specs.Parts.{WithParts}
 use Rattle.desk_implication.specs.Projections.{Projects}
+use Rattle.desk_references.specs.Checks.{ChecksReferences}
+use Rattle.desk_references.specs.Findings.{FindsReferences}
 use Rattle.desk_inputs.specs.Plans.{plan_file}
 use Rattle.desk_inputs.specs.Readings.{Reading}
 use Rattle.desk_tables.specs.Rejoining.{JoinsTables}
 use Rattle.desk_inputs.specs.Rows.{rows_file}
 use Rattle.desk_covers.specs.Sameness.{ChecksSame}
-use Rattle.desk_scripts.specs.Scripts.{ScriptsCheck, ScriptsMigration, ScriptsMigrationByPlan}
+use Rattle.desk_scripts.specs.Scripts.{ScriptsCheck, ScriptsMeasure, ScriptsMigration, ScriptsMigrationByPlan}
 use Rattle.desk_designs.specs.Synthesis.{Synthesizes}
 use Rattle.desk_texts.specs.Texts.{unknown_words_text}
 
@@ -68,26 +74,31 @@ AnswersSchema schema (form.basis set) = GivesBasis schema set
 AnswersSchema schema (form.closure set) = GivesClosure schema set
 AnswersSchema schema (form.project set) = Projects schema set
 AnswersSchema schema form.keys = ListsKeys schema
+AnswersSchema schema form.form_of_all = ListsFormOfAll schema
 AnswersSchema schema (form.check_key set) = ChecksKey schema set
 AnswersSchema schema form.synthesize = Synthesizes schema
+AnswersSchema schema form.synthesize_fewest = SynthesizesFewest schema
 AnswersSchema schema (form.split normal) = Splits schema normal
 AnswersSchema schema form.split_wide = SplitsWide schema
 AnswersSchema schema form.exhibit = Exhibits schema
 AnswersSchema schema form.explain_cover = ExplainsCover schema
 AnswersSchema schema form.explain_keys = ExplainsKeys schema
 AnswersSchema schema form.explain_synthesize = ExplainsSynthesis schema
+AnswersSchema schema form.explain_fewest = ExplainsFewest schema
 AnswersSchema schema (form.explain_split normal) = ExplainsSplit schema normal
 AnswersSchema schema (form.ddl normal) = WritesForm schema normal
 AnswersSchema schema (form.sql_check name) = ScriptsCheck schema name
+AnswersSchema schema (form.sql_measure name) = ScriptsMeasure schema name
 AnswersSchema schema (form.sql_migrate normal name) = ScriptsMigration schema normal name
 AnswersSchema schema (form.draw normal) = DrawsForm schema normal
 
 -- what is asked of a schema and a plan
 unfoldable pub AnswersPlan : Schema → NamedSchemes → PlanQuestion → Allowed
 AnswersPlan schema plan form.check_join = JudgesJoin schema plan.schemes
-AnswersPlan schema plan (form.check_form normal) = JudgesForm schema normal plan.schemes
+AnswersPlan schema plan (form.check_form tested) = JudgesForm schema tested plan.schemes
 AnswersPlan schema plan form.check_keeps = JudgesKeeping schema plan.schemes
 AnswersPlan schema plan form.keys_of_plan = ListsKeysOfPlan schema plan.schemes
+AnswersPlan schema plan form.forms_of_plan = ListsFormsOfPlan schema plan.schemes
 AnswersPlan schema plan form.ddl_plan = WritesPlan schema plan.names plan.schemes
 AnswersPlan schema plan (form.sql_migrate_plan name) = ScriptsMigrationByPlan schema plan.names plan.schemes name
 AnswersPlan schema plan form.draw_plan = DrawsSchemes schema plan.names plan.schemes
@@ -149,6 +160,10 @@ unfoldable pub Performs : Looks → Reading → CommandForm → Allowed
 Performs looks r (form.over_schema file task) = WithFile schema_file r file (λ schema. Does looks r schema task)
 Performs looks r (form.discover question file) = WithFile headed_file r file (AnswersRules question file)
 Performs looks r (form.discover_all file) = WithFile whole_file r file FindsAllRules
+Performs looks r (form.discover_references files) = WithHeadedFiles r files (FindsReferences files)
+Performs looks r (form.check_references file names other other_names) =
+    WithFile headed_file r file
+    (λ own. WithFile headed_file r other (λ others. ChecksReferences own names others other_names))
 Performs looks r (form.import_csv file) = WithFile imported_file r file ImportsColumns
 Performs looks r (form.import_sql dialect file table) = WithFile sql_file r file (ImportsTable dialect table file)
 Performs looks r (form.sample persons) = Samples persons

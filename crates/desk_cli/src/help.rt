@@ -15,9 +15,10 @@ const HELP: &[u8] =
 desk check proof SCHEMA FILE GOAL     whether the certificate in FILE proves the goal
 desk check derivation SCHEMA FILE GOAL  whether the derivation in FILE, by more rules, proves the goal
 desk check rows SCHEMA CSV            whether the rows in CSV are legal, and which break what
+desk check references CSV NAMES OTHER NAMES2  whether each row of CSV has its match in OTHER, and which have none
 desk check key SCHEMA SET             whether the set of attributes is a key, and why
 desk check join SCHEMA PLAN           whether the plan in PLAN loses nothing
-desk check form FORM SCHEMA PLAN      whether each scheme of the plan is in the form: 3nf, bcnf or 4nf
+desk check form FORM SCHEMA PLAN      whether each scheme of the plan is in the form: 2nf, 3nf, bcnf or 4nf
 desk check keeps SCHEMA PLAN          whether the plan keeps the functional dependencies
 desk check same SCHEMA OTHER          whether two schemas over the same names say the same
 desk check cover SCHEMA OTHER         whether OTHER is a minimal cover of SCHEMA, and what keeps it from being one
@@ -27,12 +28,15 @@ desk closure SCHEMA SET               how the closure of the set comes about, st
 desk project SCHEMA SET               the functional dependencies inside the set, as a schema
 desk keys SCHEMA                      all keys
 desk keys SCHEMA PLAN                 all keys of each scheme of the plan
+desk form SCHEMA                      the normal form of the table of all attributes, and what violates those above it
+desk form SCHEMA PLAN                 the same of each scheme of the plan
 desk synthesize SCHEMA                a plan in third normal form
+desk synthesize fewest SCHEMA         the same with fewest tables: left sides that determine each other share one
 desk split bcnf SCHEMA                a plan in Boyce-Codd normal form
 desk split 4nf SCHEMA                 a plan in fourth normal form
 desk split wide-bcnf SCHEMA           a plan in Boyce-Codd normal form, at any width
 desk exhibit SCHEMA                   rows that obey just what follows from the schema
-desk explain COMMAND                  reasons above what COMMAND prints: cover, keys, synthesize, split bcnf or split 4nf
+desk explain COMMAND                  reasons above what COMMAND prints: cover, keys, synthesize, synthesize fewest, split bcnf or split 4nf
 desk measure SCHEMA CSV               how far the rows in CSV are from legal
 desk offences SCHEMA CSV              which rows are at odds, as CSV, a line for each class
 desk offences rows SCHEMA CSV         the same row by row
@@ -48,11 +52,13 @@ desk discover K CSV                   those with at most K attributes on the lef
 desk discover keys CSV                the minimal sets of columns on which no two different rows agree
 desk discover near N K CSV            those that hold once at most N rows change, with at most K attributes on the left
 desk discover all CSV                 all functional and multivalued dependencies of at most 10 columns
+desk discover references CSV..        which columns of the files reference a key of one of them
 desk import csv CSV                   a schema of the columns of CSV, to go on from
 desk import sqlite FILE TABLE         a schema of TABLE, by what sqlite3 prints of a database in FILE
 desk import postgres FILE TABLE       the same by what pg_dump prints
 desk rejoin SCHEMA CSV..              the join of the tables in files
 desk sql check SCHEMA TABLE           queries for the rows of TABLE in a database that break each rule
+desk sql measure SCHEMA TABLE         queries that count there what breaks each rule, as measure counts it
 desk sql migrate FORM SCHEMA TABLE    statements that make the tables in the form from TABLE
 desk sql migrate plan SCHEMA PLAN TABLE  the same of the plan
 desk draw FORM SCHEMA                 a picture of the tables in the form, for Graphviz

@@ -16,8 +16,9 @@ ghost use Rattle.desk_responses.specs.Responses.{RespondsAs};
 use arguments::Argument;
 use desk_covers::{cover, explain_cover};
 use desk_designs::{
-    check_form, check_join, check_keeps, draw_form, draw_plan, explain_split, explain_synthesis,
-    split_by_pairs, split_in_form, synthesize_plan, write_form, write_plan,
+    check_form, check_join, check_keeps, draw_form, draw_plan, explain_fewest, explain_split,
+    explain_synthesis, form_of_all, forms_of_plan, split_by_pairs, split_in_form, synthesize_fewest,
+    synthesize_plan, write_form, write_plan,
 };
 use desk_discovery::{discover_keys, discover_near_rules, discover_rules, discover_small_rules};
 use desk_exhibits::exhibit_relation;
@@ -25,7 +26,7 @@ use desk_implication::{give_basis, give_closure, give_projection, implies};
 use desk_keys::{check_key, explain_keys, list_keys, list_keys_of_plan};
 use desk_measures::{keep_rows, list_offences, list_offences_by_row};
 use desk_responses::{EarlyExit, Response};
-use desk_scripts::{script_check, script_migration, script_migration_by_plan};
+use desk_scripts::{script_check, script_measure, script_migration, script_migration_by_plan};
 use desk_tables::check_rows;
 use desk_words::{PlanQuestion, RowsQuestion, RulesQuestion, SchemaQuestion};
 use headed_rows::Headed;
@@ -51,17 +52,21 @@ pub fn answer_schema(
         SchemaQuestion::Closure { set } => give_closure(alloc, schema, set),
         SchemaQuestion::Project { set } => give_projection(alloc, schema, set),
         SchemaQuestion::Keys => list_keys(alloc, schema),
+        SchemaQuestion::FormOfAll => form_of_all(alloc, schema),
         SchemaQuestion::CheckKey { set } => check_key(alloc, schema, set),
         SchemaQuestion::Synthesize => synthesize_plan(alloc, schema),
+        SchemaQuestion::SynthesizeFewest => synthesize_fewest(alloc, schema),
         SchemaQuestion::Split { form } => split_in_form(alloc, schema, form),
         SchemaQuestion::SplitWide => split_by_pairs(alloc, schema),
         SchemaQuestion::Exhibit => exhibit_relation(alloc, schema),
         SchemaQuestion::ExplainCover => explain_cover(alloc, schema),
         SchemaQuestion::ExplainKeys => explain_keys(alloc, schema),
         SchemaQuestion::ExplainSynthesize => explain_synthesis(alloc, schema),
+        SchemaQuestion::ExplainFewest => explain_fewest(alloc, schema),
         SchemaQuestion::ExplainSplit { form } => explain_split(alloc, schema, form),
         SchemaQuestion::Ddl { form } => write_form(alloc, schema, form),
         SchemaQuestion::SqlCheck { name } => script_check(alloc, schema, name),
+        SchemaQuestion::SqlMeasure { name } => script_measure(alloc, schema, name),
         SchemaQuestion::SqlMigrate { form, name } => script_migration(alloc, schema, form, name),
         SchemaQuestion::Draw { form } => draw_form(alloc, schema, form),
     }
@@ -88,6 +93,7 @@ pub fn answer_plan(
         PlanQuestion::CheckForm { form } => check_form(alloc, schema, form, plan),
         PlanQuestion::CheckKeeps => check_keeps(alloc, schema, plan),
         PlanQuestion::Keys => list_keys_of_plan(alloc, schema, plan),
+        PlanQuestion::Forms => forms_of_plan(alloc, schema, plan),
         PlanQuestion::Ddl => write_plan(alloc, schema, plan, names),
         PlanQuestion::SqlMigrate { name } => {
             script_migration_by_plan(alloc, schema, plan, names, name)

@@ -2,6 +2,8 @@
 pub mod Synthesis
 pub mod Decompositions
 pub mod NormalForms
+pub mod FormsOfSchemes
+pub mod TestedSchemes
 pub mod Joins
 pub mod Keeping
 pub mod Designs
@@ -9,3 +11,5 @@ pub mod Drawings
 pub mod LeftOut
 pub mod SynthesisReasons
 pub mod SplitReasons
+pub mod FewestTables
+pub mod FewestReasons

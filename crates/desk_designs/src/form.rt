@@ -6,7 +6,7 @@ ghost use Rattle.dep_model.specs.Plans.{schemes_of};
 ghost use Rattle.schema_model.specs.Schemas.{universe_of, theory_in};
 ghost use Rattle.plans.specs.Plans.{IsPlanOver, plan_of};
 ghost use Rattle.desk_responses.specs.ResponseValues.{Says};
-ghost use Rattle.desk_designs.specs.NormalForms.{EndsForm, JudgesForm, PassesForm, form_word, in_form_text, violated_text, violation_of};
+ghost use Rattle.desk_designs.specs.NormalForms.{EndsForm, JudgesForm, PassesForm, form_word, in_form_text, tested_violation_of, tested_word, violated_text, violation_of};
 ghost use Rattle.schema_printer.specs.Printing.{dependency_text, set_text};
 ghost use Rattle.schema_printer.specs.Spelling.{printed_names_of};
 ghost use Rattle.desk_responses.specs.Responses.{response_value, RespondsAs, ExitsAs};
@@ -17,17 +17,18 @@ use byte_texts::add;
 use dep_model::{Dep, Form, OutOfMemory};
 use desk_responses::{EarlyExit, Response, Status, too_wide_exit};
 use desk_texts::line_of;
-use normal_forms::{Breach, violation};
+use normal_forms::Breach;
 use plans::Plan;
 use schema_model::Schema;
 use schema_printer::{add_dep, add_set};
 use std::alloc::Global;
+use which_form::{TestedForm, tested_violation};
 
 /// Whether each scheme of a plan is in a normal form.
 pub fn check_form(
     alloc: Global,
     schema: &Schema,
-    form: Form,
+    form: TestedForm,
     plan: &Plan,
 ) -> Result<Response, EarlyExit>
     requires universe { IsPlanOver (theory_in schema.now) plan.now }
@@ -41,7 +42,7 @@ pub fn check_form(
 fn judge_schemes(
     alloc: Global,
     schema: &Schema,
-    form: Form,
+    form: TestedForm,
     schemes: &[AttrSet],
 ) -> Result<Response, EarlyExit>
     requires within { All (λ scheme. IsSubset (attributes scheme)
@@ -75,12 +76,17 @@ fn stands_before(schemes: &[AttrSet], position: usize, scheme: AttrSet) -> bool
 }
 
 // Whether a scheme passes the test of a form.
-fn test_scheme(alloc: Global, schema: &Schema, form: Form, scheme: AttrSet) -> Result<(), EarlyExit>
+fn test_scheme(
+    alloc: Global,
+    schema: &Schema,
+    form: TestedForm,
+    scheme: AttrSet,
+) -> Result<(), EarlyExit>
     requires within { IsSubset (attributes scheme) (universe_of schema.now) }
     ensures passes { IfOk result (λ _. PassesForm schema.now form (attributes scheme)) }
     ensures ends { IfErr result (ExitsAs (EndsForm schema.now form (attributes scheme))) }
 {
-    match violation(&schema.theory(), scheme, form) {
+    match tested_violation(&schema.theory(), scheme, form) {
         Ok(None) => Ok(()),
         Ok(Some(breach)) => Err(violation_exit(alloc, schema, form, scheme, breach)),
         Err(_) => Err(too_wide_exit(alloc, schema, scheme)),
@@ -88,14 +94,24 @@ fn test_scheme(alloc: Global, schema: &Schema, form: Form, scheme: AttrSet) -> R
 }
 
 // Each scheme is in the form.
-fn in_form_response(alloc: Global, form: Form) -> Result<Response, OutOfMemory>
+fn in_form_response(alloc: Global, form: TestedForm) -> Result<Response, OutOfMemory>
     ensures says { IfOk result (λ response. Says Status.Yes (in_form_text form)
         (response_value response)) }
 {
     Ok(Response::with_text(
         Status::Yes,
-        line_of(alloc, b"every scheme is in ", word_of(form), b"")?,
+        line_of(alloc, b"every scheme is in ", word_of_tested(form), b"")?,
     ))
+}
+
+/// The word of a form that a scheme is tested for.
+pub fn word_of_tested(form: TestedForm) -> &'static [u8]
+    ensures word { result.now ≡ tested_word form }
+{
+    match form {
+        TestedForm::Second => b"2nf",
+        TestedForm::Higher { form: higher } => word_of(higher),
+    }
 }
 
 /// The word of a normal form.
@@ -113,7 +129,7 @@ pub fn word_of(form: Form) -> &'static [u8]
 fn violation_exit(
     alloc: Global,
     schema: &Schema,
-    form: Form,
+    form: TestedForm,
     scheme: AttrSet,
     breach: Breach,
 ) -> EarlyExit
@@ -131,7 +147,7 @@ fn violation_exit(
 fn violation_lines(
     alloc: Global,
     schema: &Schema,
-    form: Form,
+    form: TestedForm,
     scheme: AttrSet,
     breach: Breach,
 ) -> Result<Vec<u8>, OutOfMemory>
@@ -158,18 +174,32 @@ fn scheme_line(alloc: Global, schema: &Schema, scheme: AttrSet) -> Result<Vec<u8
 fn breach_line(
     alloc: Global,
     schema: &Schema,
-    form: Form,
+    form: TestedForm,
     breach: Breach,
 ) -> Result<Vec<u8>, OutOfMemory>
     ensures text { IfOk result (λ text. text.items ≡ line (codes "violated by "
         ++ dependency_text (printed_names_of schema.now)
-        (violation_of form (attributes breach.lhs) (attributes breach.rhs)))) }
+        (tested_violation_of form (attributes breach.lhs) (attributes breach.rhs)))) }
 {
     let mut text = Vec::new(alloc);
     add(&mut text, b"violated by ")?;
-    add_dep(&mut text, schema, violation_dependency(form, breach))?;
+    add_dep(&mut text, schema, tested_dependency(form, breach))?;
     add(&mut text, b"\n")?;
     Ok(text)
+}
+
+/// A violation of a form that a scheme is tested for, as a dependency.
+pub fn tested_dependency(form: TestedForm, breach: Breach) -> Dep
+    ensures dep { dependency_of result
+        ≡ tested_violation_of form (attributes breach.lhs) (attributes breach.rhs) }
+{
+    match form {
+        TestedForm::Second => {
+            let Breach { lhs, rhs } = breach;
+            Dep::Fd { lhs, rhs }
+        }
+        TestedForm::Higher { form: higher } => violation_dependency(higher, breach),
+    }
 }
 
 /// A violation, as a dependency.

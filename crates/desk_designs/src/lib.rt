@@ -9,7 +9,10 @@
 mod decomposition;
 mod designs;
 mod drawings;
+mod fewest;
+mod fewest_reasons;
 mod form;
+mod forms;
 mod join;
 mod keeping;
 mod left_out;
@@ -23,7 +26,12 @@ pub use decomposition::{
 };
 pub use designs::{design_of_plan, write_form, write_plan};
 pub use drawings::{draw_form, draw_plan};
-pub use form::{check_form, violation_dependency, word_of};
+pub use fewest::synthesize_fewest;
+pub use fewest_reasons::explain_fewest;
+pub use form::{
+    check_form, tested_dependency, violation_dependency, word_of, word_of_tested,
+};
+pub use forms::{form_of_all, forms_of_plan};
 pub use join::{check_join, test_loss};
 pub use keeping::check_keeps;
 pub use missing::{required_design, test_missing};

@@ -17,7 +17,7 @@ use Rattle.desk_implication.specs.Certificates.{Checked}
 use Rattle.desk_covers.specs.Covering.{GivesCover}
 use Rattle.desk_cli.specs.Desk.{Desk, FileSourceInCall, SinkInCall}
 use Rattle.desk_delivery.specs.Outcomes.{DestinationsInCall, OwnInCall}
-use Rattle.desk_words.specs.Forms.{form_of, after_check, schema_alone, schema_and_two, no_more_arguments, form_over_schema, after_keys, schema_and_word, schema_and_plan, schema_and_rows}
+use Rattle.desk_words.specs.Forms.{form_of, after_check, schema_alone, schema_and_two, no_more_arguments, form_over_schema, after_keys, after_synthesize, schema_and_word, schema_and_plan, schema_and_rows}
 use Rattle.desk_implication.specs.Implication.{Decided}
 use Rattle.desk_inputs.specs.FileKinds.{IsFile, WithFile}
 use Rattle.desk_inputs.specs.Inputs.{schema_file, proof_file}
@@ -178,7 +178,7 @@ cover_answered files name schema file looks response answered =
 
 synthesize_asks : (files : Files) (name : List ℕ) (looks : Looks) (response : ResponseValue)
     → Answers looks (known_files files) (codes "synthesize" ∷ name ∷ []) response → WithFile schema_file (known_files files) name Synthesizes response
-unfolding form_of form_over_schema schema_alone Performs Does AnswersSchema
+unfolding form_of form_over_schema after_synthesize Performs Does AnswersSchema
 synthesize_asks files name looks response answered = answered
 
 pub synthesize_answered : (files : Files) (name : List ℕ) (schema : Schema) → IsFile schema_file (known_files files) name schema

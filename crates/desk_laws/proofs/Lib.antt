@@ -2,6 +2,7 @@ pub mod AcceptedLaws
 pub mod StopLemmas
 pub mod CompleteLaws
 pub mod TableLaws
+mod FormLaws
 mod OneText
 mod OneFile
 mod ImportLaws
@@ -17,6 +18,9 @@ mod OneInput
 mod OnePage
 mod FindingLaws
 mod OneMeasure
+mod OneHeadedFiles
+mod OneReferences
+mod ReferenceLaws
 mod OneTask
 mod DerivationLaws
 mod SampleWords

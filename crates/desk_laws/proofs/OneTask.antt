@@ -18,7 +18,9 @@ use Rattle.implication_laws.proofs.GoalLemmas.{goal_goes, says-status}
 use Rattle.implication_laws.proofs.ImplyingLaws.{no_not_yes}
 use Rattle.implication_laws.proofs.OnePlanAnswer.{one_plan_answer}
 use Rattle.desk_laws.proofs.OneMeasure.{one_kept, one_list_by_row, one_list_of_classes, one_measured, one_of_texts}
-use Rattle.plan_laws.proofs.DesignAnswers.{one_check_scripted, one_form_drawn, one_form_scripted, one_form_written, one_plan_drawn, one_plan_scripted, one_plan_written}
+use Rattle.plan_laws.proofs.DesignAnswers.{one_check_scripted, one_form_drawn, one_form_scripted, one_form_written, one_measure_scripted, one_plan_drawn, one_plan_scripted, one_plan_written}
+use Rattle.plan_laws.proofs.FewestAnswers.{one_explained_fewest, one_fewest}
+use Rattle.plan_laws.proofs.FormAnswers.{one_form_of_all, one_list_of_forms}
 use Rattle.plan_laws.proofs.FormTables.{one_synthesis}
 use Rattle.plan_laws.proofs.PlacedAnswers.{one_form_placed, one_plan_placed}
 use Rattle.plan_laws.proofs.ReasonAnswers.{one_explained_split, one_explained_synthesis}
@@ -87,18 +89,22 @@ one_schema_answer (form.basis set) s one other first second = inl (one_basis_ans
 one_schema_answer (form.closure set) s one other first second = inl (one_closure_answer s set one other first second)
 one_schema_answer (form.project set) s one other first second = inl (one_projection_answer s set one other first second)
 one_schema_answer form.keys s one other first second = inl (one_keys_answer s one other first second)
+one_schema_answer form.form_of_all s one other first second = inl (one_form_of_all s one other first second)
 one_schema_answer (form.check_key set) s one other first second = inl (one_key_answer s set one other first second)
 one_schema_answer form.synthesize s one other first second = inl (one_synthesis s one other first second)
+one_schema_answer form.synthesize_fewest s one other first second = inl (one_fewest s one other first second)
 one_schema_answer (form.split normal) s one other first second = inl (one_split_answer s normal one other first second)
 one_schema_answer form.split_wide s one other first second = inl (one_wide_split_answer s one other first second)
 one_schema_answer form.exhibit s one other first second = inl (one_exhibit_answer s one other first second)
 one_schema_answer form.explain_cover s one other first second = inl (one_explained_cover s one other first second)
 one_schema_answer form.explain_keys s one other first second = inl (one_explained_keys s one other first second)
 one_schema_answer form.explain_synthesize s one other first second = inl (one_explained_synthesis s one other first second)
+one_schema_answer form.explain_fewest s one other first second = inl (one_explained_fewest s one other first second)
 one_schema_answer (form.explain_split normal) s one other first second =
     inl (one_explained_split s normal one other first second)
 one_schema_answer (form.ddl normal) s one other first second = inl (one_form_written s normal one other first second)
 one_schema_answer (form.sql_check name) s one other first second = inl (one_check_scripted s name one other first second)
+one_schema_answer (form.sql_measure name) s one other first second = inl (one_measure_scripted s name one other first second)
 one_schema_answer (form.sql_migrate normal name) s one other first second =
     inl (one_form_scripted s normal name one other first second)
 one_schema_answer (form.draw normal) s one other first second = inl (one_form_drawn s normal one other first second)
@@ -107,9 +113,10 @@ pub one_answer_of_plan : (s : Schema) (plan : NamedSchemes) (question : PlanQues
     → AllowsOne (AnswersPlan s plan question)
 unfolding AnswersPlan
 one_answer_of_plan s plan form.check_join valid one other = one_join s plan.schemes one other
-one_answer_of_plan s plan (form.check_form normal) valid one other = one_form s normal plan.schemes one other valid
+one_answer_of_plan s plan (form.check_form tested) valid one other = one_form s tested plan.schemes one other valid
 one_answer_of_plan s plan form.check_keeps valid one other = one_keeping s plan.schemes one other
 one_answer_of_plan s plan form.keys_of_plan valid one other = one_plan_answer s plan.schemes one other
+one_answer_of_plan s plan form.forms_of_plan valid one other = one_list_of_forms s plan.schemes valid one other
 one_answer_of_plan s plan form.ddl_plan valid one other = one_plan_written s plan.names plan.schemes one other
 one_answer_of_plan s plan (form.sql_migrate_plan name) valid one other = one_plan_scripted s plan.names plan.schemes name one other
 one_answer_of_plan s plan form.draw_plan valid one other = one_plan_drawn s plan.names plan.schemes one other

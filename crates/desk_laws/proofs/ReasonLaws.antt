@@ -13,6 +13,8 @@ use Rattle.desk_inputs.specs.Inputs.{schema_file}
 use Rattle.desk_inputs.specs.Readings.{known_files}
 use Rattle.desk_outside.specs.Files.{Files}
 use Rattle.desk_designs.specs.Decompositions.{IsSplitInForm, SplitStops, ShowsPlan, WithPlanInForm}
+use Rattle.desk_designs.specs.FewestReasons.{AreFewestReasons, ExplainsFewest}
+use Rattle.desk_designs.specs.FewestTables.{SynthesizesFewest}
 use Rattle.desk_designs.specs.Synthesis.{Synthesizes}
 use Rattle.desk_designs.specs.SplitReasons.{AreSplitReasons, ExplainsCuts}
 use Rattle.desk_designs.specs.SynthesisReasons.{AreSynthesisReasons, ExplainsSynthesis}
@@ -21,7 +23,7 @@ use Rattle.desk_responses.specs.ResponseValues.{ResponseValue, Allowed, With}
 use Rattle.dep_model.specs.declared.form.Form.{Form}
 use Rattle.dep_model.specs.declared.form.Form.TheVariants.{Bcnf, Fourth}
 use Rattle.desk_responses.specs.declared.status.Status.{Status}
-use Rattle.desk_words.specs.Forms.{form_of, form_over_schema, after_explain, after_explain_split, schema_alone}
+use Rattle.desk_words.specs.Forms.{form_of, form_over_schema, after_explain, after_explain_split, after_explain_synthesize, schema_alone}
 use Rattle.desk_laws.specs.Completeness.{IsYesOrNo, IsAnswered, HasPlanInForm}
 use Rattle.desk_laws.proofs.CompleteLaws.{after_schema, lists_keys}
 use Rattle.desk_laws.proofs.TableLaws.{after_form}
@@ -65,7 +67,7 @@ keys_explained files name schema file narrow within_limit looks response answere
 synthesis_asks : (files : Files) (name : List ℕ) (looks : Looks) (response : ResponseValue)
     → Answers looks (known_files files) (codes "explain" ∷ codes "synthesize" ∷ name ∷ []) response
     → WithFile schema_file (known_files files) name ExplainsSynthesis response
-unfolding form_of form_over_schema after_explain schema_alone Performs Does AnswersSchema
+unfolding form_of form_over_schema after_explain after_explain_synthesize Performs Does AnswersSchema
 synthesis_asks files name looks response answered = answered
 
 pub synthesis_explained : (files : Files) (name : List ℕ) (schema : Schema)
@@ -75,6 +77,20 @@ synthesis_explained files name schema file looks response answered =
     Explained-yes_or_no (AreSynthesisReasons schema) (Synthesizes schema) response
     (λ plain is. inl (ap (λ (a : ResponseValue). a.status) is.2))
     (after_schema files name schema ExplainsSynthesis response file (synthesis_asks files name looks response answered))
+
+fewest_asks : (files : Files) (name : List ℕ) (looks : Looks) (response : ResponseValue)
+    → Answers looks (known_files files) (codes "explain" ∷ codes "synthesize" ∷ codes "fewest" ∷ name ∷ []) response
+    → WithFile schema_file (known_files files) name ExplainsFewest response
+unfolding form_of form_over_schema after_explain after_explain_synthesize Performs Does AnswersSchema
+fewest_asks files name looks response answered = answered
+
+pub fewest_explained : (files : Files) (name : List ℕ) (schema : Schema)
+    → IsFile schema_file (known_files files) name schema
+    → IsAnswered files (codes "explain" ∷ codes "synthesize" ∷ codes "fewest" ∷ name ∷ [])
+fewest_explained files name schema file looks response answered =
+    Explained-yes_or_no (AreFewestReasons schema) (SynthesizesFewest schema) response
+    (λ plain is. inl (ap (λ (a : ResponseValue). a.status) is.2))
+    (after_schema files name schema ExplainsFewest response file (fewest_asks files name looks response answered))
 
 -- a split of a form below how it comes about, where splitting meets no limit
 cuts_said : (s : Schema) (form : Form) (response : ResponseValue) → HasPlanInForm s form

@@ -21,7 +21,7 @@ use Rattle.desk_designs.specs.NormalForms.{form_word}
 use Rattle.desk_cli.specs.Performs.{Answers, Performs, Does, AnswersSchema, AnswersPlan}
 use Rattle.desk_inputs.specs.Plans.{plan_file}
 use Rattle.desk_inputs.specs.Readings.{known_files}
-use Rattle.desk_scripts.specs.Scripts.{MetNameStops, AsksTable, MakesSchemes, MakesTables, ScriptsMigrationByPlan, WithTableName}
+use Rattle.desk_scripts.specs.Scripts.{MetNameStops, AsksTable, MakesSchemes, MakesTables, MeasuresTable, ScriptsMigrationByPlan, WithTableName}
 use Rattle.desk_designs.specs.Designs.{WithoutMissing}
 use Rattle.desk_laws.specs.Completeness.{IsYesOrNo, IsAnswered, HasPlanInForm, RequiresAll}
 use Rattle.desk_laws.proofs.CompleteLaws.{after_schema, after_plan}
@@ -60,6 +60,20 @@ sql_check_answered files name table schema file is looks response answered =
     after_name table (AsksTable schema table) response is (λ found. inl (ap (λ (a : ResponseValue). a.status) found.1))
     (after_schema files name schema (λ r. WithTableName table (AsksTable r table)) response file
     (sql_check_asks files name table looks response answered))
+
+-- ---- `sql measure`
+sql_measure_asks : (files : Files) (name table : List ℕ) (looks : Looks) (response : ResponseValue)
+    → Answers looks (known_files files) (codes "sql" ∷ codes "measure" ∷ name ∷ table ∷ []) response
+    → WithFile schema_file (known_files files) name (λ r. WithTableName table (MeasuresTable r table)) response
+unfolding form_of form_over_schema after_sql schema_and_word Performs Does AnswersSchema
+sql_measure_asks files name table looks response answered = answered
+
+pub sql_measure_answered : (files : Files) (name table : List ℕ) (schema : Schema) → IsFile schema_file (known_files files) name schema
+    → IsTrue (is_table_name table) → IsAnswered files (codes "sql" ∷ codes "measure" ∷ name ∷ table ∷ [])
+sql_measure_answered files name table schema file is looks response answered =
+    after_name table (MeasuresTable schema table) response is (λ found. inl (ap (λ (a : ResponseValue). a.status) found.1))
+    (after_schema files name schema (λ r. WithTableName table (MeasuresTable r table)) response file
+    (sql_measure_asks files name table looks response answered))
 
 -- ---- `sql migrate`
 -- the script of a plan, where no value is missing in its tables where it must not be

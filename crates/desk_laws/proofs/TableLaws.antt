@@ -30,7 +30,7 @@ use Rattle.desk_responses.specs.ResponseValues.{ResponseValue, Allowed}
 use Rattle.desk_designs.specs.Decompositions.{SplitStops, WithPlanInForm, ShowsPlan, SplitsWide}
 use Rattle.desk_designs.specs.Designs.{WithoutMissing, WritesPlan, WritesSchemes, WritesTables}
 use Rattle.desk_exhibits.specs.Exhibits.{Exhibits}
-use Rattle.desk_words.specs.Forms.{form_of, form_over_rows, form_over_schema, after_check, after_check_form, after_split, after_ddl, after_migrate, after_migrate_form, after_migrate_plan, normal_form, schema_alone, persons_alone, schema_and_plan}
+use Rattle.desk_words.specs.Forms.{form_of, form_over_rows, form_over_schema, after_check, after_check_form, after_split, after_ddl, after_migrate, after_migrate_form, after_migrate_plan, normal_form, schema_alone, persons_alone, schema_and_plan, tested_form}
 use Rattle.desk_inputs.specs.FileKinds.{IsFile, WithFile}
 use Rattle.desk_inputs.specs.Inputs.{schema_file}
 use Rattle.desk_designs.specs.Joins.{WithoutLoss, IsTooLarge}
@@ -41,7 +41,9 @@ use Rattle.desk_tables.specs.Overwriting.{KeepsFiles, MigratesHere, MigratesPlan
 use Rattle.desk_words.specs.Numbers.{is_count}
 use Rattle.lexer.specs.Bytes.{number_of}
 use Rattle.sample_rows.specs.Sample.{sample_relation}
-use Rattle.desk_designs.specs.NormalForms.{JudgesForm, form_word}
+use Rattle.desk_designs.specs.NormalForms.{JudgesForm, form_word, tested_word}
+use Rattle.which_form.specs.declared.forms.TestedForm.{TestedForm}
+use Rattle.which_form.specs.declared.forms.TestedForm.TheVariants.{Second, Higher}
 use Rattle.desk_cli.specs.Performs.{Answers, Performs, Does, AnswersSchema, AnswersPlan}
 use Rattle.desk_inputs.specs.Plans.{plan_file}
 use Rattle.desk_inputs.specs.Readings.{known_files}
@@ -99,7 +101,7 @@ JudgesKeeping-yes_or_no : (r : Schema) (plan : List Attributes) (response : Resp
 JudgesKeeping-yes_or_no r plan response (inl (kept, says)) = inl (ap (λ (a : ResponseValue). a.status) says)
 JudgesKeeping-yes_or_no r plan response (inr (lost, found)) = inr (ap (λ (a : ResponseValue). a.status) found.4)
 
-JudgesForm-yes_or_no : (s : Schema) (form : Form) (plan : List Attributes) (response : ResponseValue) → All (λ scheme. IsWideScheme (theory_of s) scheme → ⊥) plan
+JudgesForm-yes_or_no : (s : Schema) (form : TestedForm) (plan : List Attributes) (response : ResponseValue) → All (λ scheme. IsWideScheme (theory_of s) scheme → ⊥) plan
     → JudgesForm s form plan response → IsYesOrNo response.status
 JudgesForm-yes_or_no s form plan response narrow (inl (all, says)) = inl (ap (λ (a : ResponseValue). a.status) says)
 JudgesForm-yes_or_no s form plan response narrow (inr (scheme, first, inl (wide, says))) =
@@ -144,17 +146,18 @@ small_is_splittable s form within_limit which = record {
 
 -- ---- commands
 -- each asks what `Performs` says of its words, and then what it reads and finds is there
-check_form_asks : (form : Form) (files : Files) (name file : List ℕ) (looks : Looks) (response : ResponseValue) → Answers looks (known_files files) (codes "check" ∷ codes "form" ∷ form_word form ∷ name ∷ file ∷ []) response
+check_form_asks : (form : TestedForm) (files : Files) (name file : List ℕ) (looks : Looks) (response : ResponseValue) → Answers looks (known_files files) (codes "check" ∷ codes "form" ∷ tested_word form ∷ name ∷ file ∷ []) response
     → WithFile schema_file (known_files files) name (λ r. WithFile (plan_file r) (known_files files) file (λ p. JudgesForm r form p.schemes)) response
-unfolding form_of form_over_schema after_check after_check_form normal_form schema_and_plan Performs Does AnswersPlan
-check_form_asks Third files name file looks response answered = answered
-check_form_asks Bcnf files name file looks response answered = answered
-check_form_asks Fourth files name file looks response answered = answered
+unfolding form_of form_over_schema after_check after_check_form tested_form normal_form schema_and_plan Performs Does AnswersPlan
+check_form_asks Second files name file looks response answered = answered
+check_form_asks (Higher Third) files name file looks response answered = answered
+check_form_asks (Higher Bcnf) files name file looks response answered = answered
+check_form_asks (Higher Fourth) files name file looks response answered = answered
 
-pub check_answered : (form : Form) (files : Files) (name file : List ℕ)
+pub check_answered : (form : TestedForm) (files : Files) (name file : List ℕ)
     → (schema : Schema) (plan : NamedSchemes)
     → IsFile schema_file (known_files files) name schema → IsFile (plan_file schema) (known_files files) file plan
-    → All (λ scheme. IsWideScheme (theory_of schema) scheme → ⊥) plan.schemes → IsAnswered files (codes "check" ∷ codes "form" ∷ form_word form ∷ name ∷ file ∷ [])
+    → All (λ scheme. IsWideScheme (theory_of schema) scheme → ⊥) plan.schemes → IsAnswered files (codes "check" ∷ codes "form" ∷ tested_word form ∷ name ∷ file ∷ [])
 check_answered form files name file schema plan held_schema held_plan narrow looks response answered =
     JudgesForm-yes_or_no schema form plan.schemes response narrow
     (after_plan files schema file plan (λ p. JudgesForm schema form p.schemes) response held_plan

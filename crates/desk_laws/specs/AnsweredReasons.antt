@@ -32,6 +32,13 @@ ExplainSynthesizeIsAnswered =
     → IsFile schema_file (known_files files) name schema
     → IsAnswered files (codes "explain" ∷ codes "synthesize" ∷ name ∷ [])
 
+-- `explain synthesize fewest` is answered where the schema file means a schema
+abbrev pub ExplainFewestIsAnswered : Type 0
+ExplainFewestIsAnswered =
+    (files : Files) (name : List ℕ) (schema : Schema)
+    → IsFile schema_file (known_files files) name schema
+    → IsAnswered files (codes "explain" ∷ codes "synthesize" ∷ codes "fewest" ∷ name ∷ [])
+
 -- `explain split` is answered where also the splitting meets no limit (`bcnf`)
 abbrev pub ExplainSplitIsAnsweredBcnf : Type 0
 ExplainSplitIsAnsweredBcnf =

@@ -21,6 +21,14 @@ SqlCheckIsAnswered =
     → IsTrue (is_table_name table)
     → IsAnswered files (codes "sql" ∷ codes "check" ∷ name ∷ table ∷ [])
 
+-- `sql measure` is answered where the schema file means a schema and the word names a table
+abbrev pub SqlMeasureIsAnswered : Type 0
+SqlMeasureIsAnswered =
+    (files : Files) (name table : List ℕ) (schema : Schema)
+    → IsFile schema_file (known_files files) name schema
+    → IsTrue (is_table_name table)
+    → IsAnswered files (codes "sql" ∷ codes "measure" ∷ name ∷ table ∷ [])
+
 -- `sql migrate` is answered where the schema file means a schema of which no value may be missing, the word
 -- names a table, and a plan in the form is found within the limits, or the plan file means a plan whose chase
 -- keeps within its limit, and that names no table as the word does (`in_form`)

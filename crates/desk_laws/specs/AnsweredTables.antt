@@ -5,7 +5,7 @@ use Rattle.armstrong_rel.specs.Refusals.{IsFirstMvd, HasTooManyRows, IsTooWideTo
 use Rattle.candidate_search.specs.declared.side.TooManyLeftSides.{TooManyLeftSides}
 use Rattle.csv_rows.specs.declared.part.PartialRows.{PartialRows}
 use Rattle.dep_model.specs.Projections.{Covers}
-use Rattle.schema_model.specs.Schemas.{width_of, theory_of, theory_in}
+use Rattle.schema_model.specs.Schemas.{width_of, theory_of, theory_in, universe_of}
 use Rattle.dep_model.specs.Tuples.{Relation}
 use Rattle.schema_model.specs.Schemas.{Schema}
 use Rattle.headed_rows.specs.Headings.{HeadedRows}
@@ -32,21 +32,47 @@ use Rattle.desk_words.specs.Forms.{are_one_to_64}
 use Rattle.desk_inputs.specs.Inputs.{schema_file}
 use Rattle.desk_designs.specs.Joins.{IsTooLarge}
 use Rattle.desk_words.specs.Numbers.{is_count, is_left_bound, is_row_bound}
-use Rattle.desk_designs.specs.NormalForms.{form_word}
+use Rattle.desk_designs.specs.NormalForms.{form_word, tested_word}
 use Rattle.desk_inputs.specs.Plans.{plan_file}
 use Rattle.desk_inputs.specs.Readings.{known_files}
 use Rattle.desk_inputs.specs.Parts.{ArePartFiles}
 use Rattle.desk_inputs.specs.Rows.{rows_file}
+use Rattle.which_form.specs.declared.forms.TestedForm.{TestedForm}
 use Rattle.desk_laws.specs.Completeness.{IsAnswered, HasPlanInForm, NamesNoTable, RequiresAll}
 
 -- `check form` is answered where the schema file means a schema, the plan file a plan, and no scheme of the plan
 -- has more attributes than are tested
 abbrev pub CheckFormIsAnsweredInForm : Type 0
 CheckFormIsAnsweredInForm =
-    (form : Form) (files : Files) (name file : List ℕ) (schema : Schema) (plan : NamedSchemes)
+    (form : TestedForm) (files : Files) (name file : List ℕ) (schema : Schema) (plan : NamedSchemes)
     → IsFile schema_file (known_files files) name schema → IsFile (plan_file schema) (known_files files) file plan
     → All (λ scheme. IsWideScheme (theory_of schema) scheme → ⊥) plan.schemes
-    → IsAnswered files (codes "check" ∷ codes "form" ∷ form_word form ∷ name ∷ file ∷ [])
+    → IsAnswered files (codes "check" ∷ codes "form" ∷ tested_word form ∷ name ∷ file ∷ [])
+
+-- `form` is answered where the schema file means a schema that does not have more attributes than are tested, or
+-- the plan file a plan of which no scheme has (`all`)
+abbrev pub FormIsAnsweredOfAll : Type 0
+FormIsAnsweredOfAll =
+    (files : Files) (name : List ℕ) (schema : Schema)
+    → IsFile schema_file (known_files files) name schema
+    → (IsWideScheme (theory_of schema) (universe_of schema) → ⊥)
+    → IsAnswered files (codes "form" ∷ name ∷ [])
+
+-- `form` is answered where the schema file means a schema that does not have more attributes than are tested, or
+-- the plan file a plan of which no scheme has (`plan`)
+abbrev pub FormIsAnsweredOfPlan : Type 0
+FormIsAnsweredOfPlan =
+    (files : Files) (name file : List ℕ) (schema : Schema) (plan : NamedSchemes)
+    → IsFile schema_file (known_files files) name schema → IsFile (plan_file schema) (known_files files) file plan
+    → All (λ scheme. IsWideScheme (theory_of schema) scheme → ⊥) plan.schemes
+    → IsAnswered files (codes "form" ∷ name ∷ file ∷ [])
+
+-- `synthesize fewest` is answered where the schema file means a schema
+abbrev pub SynthesizeFewestIsAnswered : Type 0
+SynthesizeFewestIsAnswered =
+    (files : Files) (name : List ℕ) (schema : Schema)
+    → IsFile schema_file (known_files files) name schema
+    → IsAnswered files (codes "synthesize" ∷ codes "fewest" ∷ name ∷ [])
 
 -- `check keeps` is answered where the schema file means a schema and the plan file a plan
 abbrev pub CheckKeepsIsAnswered : Type 0

@@ -1,7 +1,7 @@
 //! Where its files have their meaning and nothing fails, a call ends with yes or no, or runs out of
 //! memory (`complete` says it of every call): the laws of explanations.
 
-ghost use Rattle.desk_laws.specs.AnsweredReasons.{ExplainCoverIsAnswered, ExplainKeysIsAnswered, ExplainSynthesizeIsAnswered, ExplainSplitIsAnsweredBcnf, ExplainSplitIsAnsweredFourth};
+ghost use Rattle.desk_laws.specs.AnsweredReasons.{ExplainCoverIsAnswered, ExplainKeysIsAnswered, ExplainSynthesizeIsAnswered, ExplainFewestIsAnswered, ExplainSplitIsAnsweredBcnf, ExplainSplitIsAnsweredFourth};
 
 /// `explain cover` is answered where the schema file means a schema.
 pub fn explain_cover_is_answered()
@@ -16,6 +16,11 @@ pub fn explain_keys_is_answered()
 /// `explain synthesize` is answered where the schema file means a schema.
 pub fn explain_synthesize_is_answered()
     ensures law { ExplainSynthesizeIsAnswered }
+{}
+
+/// `explain synthesize fewest` is answered where the schema file means a schema.
+pub fn explain_fewest_is_answered()
+    ensures law { ExplainFewestIsAnswered }
 {}
 
 /// `explain split` is answered where also the splitting meets no limit.

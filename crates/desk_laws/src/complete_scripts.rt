@@ -2,11 +2,16 @@
 //! memory (`complete` says it of every call): the laws of the commands that print scripts and
 //! pictures.
 
-ghost use Rattle.desk_laws.specs.AnsweredScripts.{SqlCheckIsAnswered, SqlMigrateIsAnsweredInForm, SqlMigrateIsAnsweredPlan, DrawIsAnsweredInForm, DrawIsAnsweredPlan};
+ghost use Rattle.desk_laws.specs.AnsweredScripts.{SqlCheckIsAnswered, SqlMeasureIsAnswered, SqlMigrateIsAnsweredInForm, SqlMigrateIsAnsweredPlan, DrawIsAnsweredInForm, DrawIsAnsweredPlan};
 
 /// `sql check` is answered where the schema file means a schema and the word names a table.
 pub fn sql_check_is_answered()
     ensures law { SqlCheckIsAnswered }
+{}
+
+/// `sql measure` is answered where the schema file means a schema and the word names a table.
+pub fn sql_measure_is_answered()
+    ensures law { SqlMeasureIsAnswered }
 {}
 
 /// `sql migrate` is answered where the schema file means a schema of which no value may be missing, the

@@ -2,12 +2,24 @@
 //! memory (`complete` says it of every call): the laws of the commands on normal forms, plans and
 //! tables.
 
-ghost use Rattle.desk_laws.specs.AnsweredTables.{CheckFormIsAnsweredInForm, CheckKeepsIsAnswered, SplitIsAnsweredBcnf, SplitIsAnsweredFourth, SplitIsAnsweredWide, ExhibitIsAnswered, DdlIsAnsweredInForm, DdlIsAnsweredPlan, MigrateIsAnsweredInForm, MigrateIsAnsweredPlan, SmallUniversesAreSplitBcnf, SmallUniversesAreSplitFourth, SampleIsAnswered, DiscoverIsAnswered, DiscoverIsAnsweredSmall, DiscoverIsAnsweredKeys, DiscoverNearIsAnswered, DiscoverAllIsAnswered, ImportCsvIsAnswered, ImportSqlIsAnsweredSqlite, ImportSqlIsAnsweredPostgres, RejoinIsAnswered};
+ghost use Rattle.desk_laws.specs.AnsweredTables.{CheckFormIsAnsweredInForm, FormIsAnsweredOfAll, FormIsAnsweredOfPlan, SynthesizeFewestIsAnswered, CheckKeepsIsAnswered, SplitIsAnsweredBcnf, SplitIsAnsweredFourth, SplitIsAnsweredWide, ExhibitIsAnswered, DdlIsAnsweredInForm, DdlIsAnsweredPlan, MigrateIsAnsweredInForm, MigrateIsAnsweredPlan, SmallUniversesAreSplitBcnf, SmallUniversesAreSplitFourth, SampleIsAnswered, DiscoverIsAnswered, DiscoverIsAnsweredSmall, DiscoverIsAnsweredKeys, DiscoverNearIsAnswered, DiscoverAllIsAnswered, ImportCsvIsAnswered, ImportSqlIsAnsweredSqlite, ImportSqlIsAnsweredPostgres, RejoinIsAnswered};
 
 /// `check form` is answered where the schema file means a schema, the plan file a plan, and no scheme of
 /// the plan has more attributes than are tested.
 pub fn check_form_is_answered()
     ensures in_form { CheckFormIsAnsweredInForm }
+{}
+
+/// `form` is answered where the schema file means a schema that does not have more attributes than are
+/// tested, or the plan file a plan of which no scheme has.
+pub fn form_is_answered()
+    ensures all { FormIsAnsweredOfAll }
+    ensures plan { FormIsAnsweredOfPlan }
+{}
+
+/// `synthesize fewest` is answered where the schema file means a schema.
+pub fn synthesize_fewest_is_answered()
+    ensures law { SynthesizeFewestIsAnswered }
 {}
 
 /// `check keeps` is answered where the schema file means a schema and the plan file a plan.

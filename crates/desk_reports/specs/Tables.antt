@@ -12,6 +12,7 @@ use Rattle.html_pages.specs.Commands.{shell_word}
 use Rattle.html_pages.specs.Pages.{title_with_words}
 use Rattle.dep_model.specs.declared.form.Form.{Form}
 use Rattle.dep_model.specs.declared.form.Form.TheVariants.{Third, Bcnf, Fourth}
+use Rattle.which_form.specs.declared.forms.TestedForm.TheVariants.{Higher}
 use Rattle.desk_designs.specs.Decompositions.{FormStops, IsPlanInForm, Splits}
 use Rattle.desk_designs.specs.Designs.{IsSoundDesign, WritesForm, WritesPlan}
 use Rattle.desk_designs.specs.Joins.{JudgesJoin}
@@ -92,7 +93,7 @@ check_words form = codes "check form " ++ form_word form ++ codes " "
 abbrev pub ShowsFormOf : List ℕ → List ℕ → Schema → List Attributes → Form → Shown
 ShowsFormOf file plan_file s schemes form = Opens
     (title_with_words (form_title form) (two_files (check_words form) file plan_file))
-    (JudgesForm s form schemes)
+    (JudgesForm s (Higher form) schemes)
 
 -- whether they are in each of the normal forms
 abbrev pub ShowsFormsOf : List ℕ → List ℕ → Schema → List Attributes → Shown

@@ -23,6 +23,7 @@ use plan_printer::NamedPlan;
 use plans::{MOST_SCHEMES, Plan};
 use schema_model::Schema;
 use std::alloc::Global;
+use which_form::TestedForm;
 
 /// The section on the tables of a plan.
 pub fn plan_section(
@@ -101,6 +102,7 @@ fn shown_form_of(
     ensures shown { IfOk result
         (λ text. ShowsFormOf file.now plan_file.now schema.now (plan_of plan.now) form text.items) }
 {
+    let tested = TestedForm::Higher { form };
     let title = title_of_two(
         alloc,
         title_of_form(form),
@@ -108,7 +110,7 @@ fn shown_form_of(
         file,
         plan_file,
     )?;
-    let text = opened(alloc, &title, check_form(alloc, schema, form, plan))?;
+    let text = opened(alloc, &title, check_form(alloc, schema, tested, plan))?;
     Ok(text)
 }
 

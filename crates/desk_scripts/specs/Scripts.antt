@@ -1,4 +1,4 @@
--- SQL scripts over a table of the user's: for `sql check` and `sql migrate`.
+-- SQL scripts over a table of the user's: for `sql check`, `sql measure` and `sql migrate`.
 use Rattle.std.specs.Prelude.{◌≡◌, ◌↔◌, ℕ, IsTrue, List, [], ◌++◌, codes, Some, None, length}
 use Rattle.attr_sets.specs.Attributes.{Attributes}
 use Rattle.attr_sets.specs.declared.set.AttrSet.{AttrSet}
@@ -17,7 +17,9 @@ use Rattle.sql_migrate_laws.specs.Moved.{HasMoved, LeavesOthers}
 use Rattle.sql_migrate_laws.specs.Ending.{IsSoundRun}
 use Rattle.sql_check_laws.specs.HeldRelations.{Holds, CastsIntegers}
 use Rattle.sql_check_laws.specs.CheckedRules.{NoBreachShown, RulesHold, NothingShown}
+use Rattle.sql_measure_laws.specs.Measured.{MeasuresRules}
 use Rattle.sql_scripts.specs.Checking.{check_text, NothingBreaks}
+use Rattle.sql_scripts.specs.Measuring.{measure_text}
 use Rattle.sql_scripts.specs.Migrating.{migrate_text, FillsTables, ViewIsTable}
 use Rattle.sql_scripts.specs.Naming.{is_table_name, met_name, quoted_table}
 use Rattle.desk_responses.specs.declared.status.Status.TheVariants.{Yes, Refused}
@@ -71,6 +73,25 @@ AsksTable schema name response =
 
 abbrev pub ScriptsCheck : Schema → List ℕ → Allowed
 ScriptsCheck schema name = WithTableName name (AsksTable schema name)
+
+-- ---- measuring
+-- what the queries of a script for a table count: where an engine holds a relation as this table, its
+-- tuples as often as they stand, the query of each dependency ends without an error; it gives no row
+-- exactly where the relation obeys the dependency, and else one row with the numbers of the
+-- relation's measure against it
+abbrev pub CountsBreaches : Schema → List ℕ → Type 0
+CountsBreaches schema table =
+    (e : Engine) (cell : ℕ → List ℕ → Cell) (r : Relation) → Holds e table schema cell r
+    → IsOver (width_of schema) r → MeasuresRules e schema table r
+
+-- yes, with the queries that count what breaks each rule
+abbrev pub MeasuresTable : Schema → List ℕ → Allowed
+MeasuresTable schema name response =
+    CountsBreaches schema (quoted_table name)
+    × Says Yes (measure_text schema (quoted_table name)) response
+
+abbrev pub ScriptsMeasure : Schema → List ℕ → Allowed
+ScriptsMeasure schema name = WithTableName name (MeasuresTable schema name)
 
 -- ---- migrating
 -- what a script that makes tables does. In an engine that holds a relation as this table, whatever it refuses,

@@ -1,4 +1,4 @@
-//! The scripts of `sql check` and `sql migrate` for a schema, a plan or a normal form.
+//! The scripts of `sql check`, `sql measure` and `sql migrate` for a schema, a plan or a normal form.
 //!
 //! Each is a pure function of values.
 //!
@@ -7,4 +7,4 @@
 
 mod scripts;
 
-pub use scripts::{script_check, script_migration, script_migration_by_plan};
+pub use scripts::{script_check, script_measure, script_migration, script_migration_by_plan};

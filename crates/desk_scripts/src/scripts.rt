@@ -5,7 +5,7 @@ ghost use Rattle.plans.specs.Plans.{IsPlanOver, plan_of, scheme_sets};
 ghost use Rattle.sql_scripts.specs.Naming.{is_table_name, met_name};
 ghost use Rattle.desk_responses.specs.ResponseValues.{Says};
 ghost use Rattle.desk_responses.specs.Responses.{response_value, RespondsAs, ExitsAs};
-ghost use Rattle.desk_scripts.specs.Scripts.{AsksTable, MakesDesign, MetNameStops, TableNameStops, met_table_text, ScriptsCheck, ScriptsMigration, ScriptsMigrationByPlan};
+ghost use Rattle.desk_scripts.specs.Scripts.{AsksTable, MeasuresTable, MakesDesign, MetNameStops, TableNameStops, met_table_text, ScriptsCheck, ScriptsMeasure, ScriptsMigration, ScriptsMigrationByPlan};
 
 use arguments::Argument;
 use ddl_text::DesignList;
@@ -15,7 +15,7 @@ use desk_responses::{EarlyExit, Response, Status, bad_table_exit};
 use desk_texts::line_of;
 use plans::{MOST_SCHEMES, Plan};
 use schema_model::{Name, Schema};
-use sql_scripts::{check_script, is_table_name, met_name, migrate_script};
+use sql_scripts::{check_script, is_table_name, measure_script, met_name, migrate_script};
 use std::alloc::Global;
 
 /// The queries for what breaks each rule in a table.
@@ -27,6 +27,21 @@ pub fn script_check(alloc: Global, schema: &Schema, name: &Argument) -> Result<R
         Err(exit) => return Err(exit),
     }
     Ok(queries_response(alloc, schema, name)?)
+}
+
+/// The queries that count what breaks each rule in a table.
+pub fn script_measure(
+    alloc: Global,
+    schema: &Schema,
+    name: &Argument,
+) -> Result<Response, EarlyExit>
+    ensures response { RespondsAs (ScriptsMeasure schema.now name.now) result }
+{
+    match test_name(alloc, name) {
+        Ok(()) => {}
+        Err(exit) => return Err(exit),
+    }
+    Ok(measures_response(alloc, schema, name)?)
 }
 
 /// The statements that make the tables of a normal form from a table.
@@ -131,6 +146,20 @@ fn queries_response(
         (response_value response)) }
 {
     let script = check_script(alloc, schema, name.bytes())?;
+    Ok(Response::with_text(Status::Yes, script))
+}
+
+// The queries that count what breaks each rule.
+fn measures_response(
+    alloc: Global,
+    schema: &Schema,
+    name: &Argument,
+) -> Result<Response, OutOfMemory>
+    requires name { IsTrue (is_table_name name.now) }
+    ensures response { IfOk result (λ response. MeasuresTable schema.now name.now
+        (response_value response)) }
+{
+    let script = measure_script(alloc, schema, name.bytes())?;
     Ok(Response::with_text(Status::Yes, script))
 }
 

@@ -1,6 +1,6 @@
 -- A command of the code, as its form: for `parse`. `Desk` does not cite it.
 use Rattle.desk_words.specs.declared.command.Command.{Command}
-use Rattle.desk_words.specs.declared.command.Command.TheVariants.{OverSchema, Discover, ImportCsv, ImportSql, Sample, Help, Version, DiscoverAll}
+use Rattle.desk_words.specs.declared.command.Command.TheVariants.{OverSchema, Discover, ImportCsv, ImportSql, Sample, Help, Version, DiscoverAll, DiscoverReferences, CheckReferences}
 use Rattle.desk_words.specs.declared.questions.PlanQuestion.{PlanQuestion}
 use Rattle.desk_words.specs.declared.questions.PlanQuestion.TheVariants as plan
 use Rattle.desk_words.specs.declared.questions.RowsQuestion.{RowsQuestion}
@@ -20,17 +20,21 @@ schema_question (schema.Basis set) = form.basis set.now
 schema_question (schema.Closure set) = form.closure set.now
 schema_question (schema.Project set) = form.project set.now
 schema_question schema.Keys = form.keys
+schema_question schema.FormOfAll = form.form_of_all
 schema_question (schema.CheckKey set) = form.check_key set.now
 schema_question schema.Synthesize = form.synthesize
+schema_question schema.SynthesizeFewest = form.synthesize_fewest
 schema_question (schema.Split normal) = form.split normal
 schema_question schema.SplitWide = form.split_wide
 schema_question schema.Exhibit = form.exhibit
 schema_question schema.ExplainCover = form.explain_cover
 schema_question schema.ExplainKeys = form.explain_keys
 schema_question schema.ExplainSynthesize = form.explain_synthesize
+schema_question schema.ExplainFewest = form.explain_fewest
 schema_question (schema.ExplainSplit normal) = form.explain_split normal
 schema_question (schema.Ddl normal) = form.ddl normal
 schema_question (schema.SqlCheck name) = form.sql_check name.now
+schema_question (schema.SqlMeasure name) = form.sql_measure name.now
 schema_question (schema.SqlMigrate normal name) = form.sql_migrate normal name.now
 schema_question (schema.Draw normal) = form.draw normal
 
@@ -39,6 +43,7 @@ plan_question plan.CheckJoin = form.check_join
 plan_question (plan.CheckForm normal) = form.check_form normal
 plan_question plan.CheckKeeps = form.check_keeps
 plan_question plan.Keys = form.keys_of_plan
+plan_question plan.Forms = form.forms_of_plan
 plan_question plan.Ddl = form.ddl_plan
 plan_question (plan.SqlMigrate name) = form.sql_migrate_plan name.now
 plan_question plan.Draw = form.draw_plan
@@ -76,6 +81,9 @@ abbrev pub command_form : Command → form.CommandForm
 command_form (OverSchema schema task) = form.over_schema schema.now (task_form task)
 command_form (Discover question file) = form.discover (rules_question question) file.now
 command_form (DiscoverAll file) = form.discover_all file.now
+command_form (DiscoverReferences files) = form.discover_references files.now
+command_form (CheckReferences file names other other_names) =
+    form.check_references file.now names.now other.now other_names.now
 command_form (ImportCsv file) = form.import_csv file.now
 command_form (ImportSql dialect file table) = form.import_sql dialect file.now table.now
 command_form (Sample persons) = form.sample persons.number

@@ -1,10 +1,12 @@
 -- The commands, and the words that form them: for `parse`, and for what words allow
 -- (`desk_cli/Performs`).
-use Rattle.std.specs.Prelude.{ℕ, Bool, ◌&&◌, Option, Some, None, List, [], ◌∷◌, length, nat_lt, nat_le, if◌then◌else◌, codes}
+use Rattle.std.specs.Prelude.{ℕ, Bool, ◌&&◌, Option, Some, None, List, [], ◌∷◌, length, nat_lt, nat_le, if◌then◌else◌, codes, option_map}
 use Rattle.std.specs.Option.{option_and_then}
 use Rattle.std.specs.Str.{bytes_eq}
 use Rattle.dep_model.specs.declared.form.Form.{Form as NormalForm}
 use Rattle.dep_model.specs.declared.form.Form.TheVariants.{Third, Bcnf, Fourth}
+use Rattle.which_form.specs.declared.forms.TestedForm.{TestedForm}
+use Rattle.which_form.specs.declared.forms.TestedForm.TheVariants.{Second, Higher}
 use Rattle.sql_lexemes.specs.declared.dialect.Dialect.{Dialect}
 use Rattle.sql_lexemes.specs.declared.dialect.Dialect.TheVariants.{Sqlite, Postgres}
 use Rattle.lexer.specs.Bytes.{number_of}
@@ -25,10 +27,14 @@ pub data SchemaQuestion : Type 0 where
   project : List ℕ → SchemaQuestion
   -- its keys
   keys : SchemaQuestion
+  -- the normal form of the scheme of all its attributes
+  form_of_all : SchemaQuestion
   -- whether a set of attributes is a key
   check_key : List ℕ → SchemaQuestion
   -- a plan in third normal form
   synthesize : SchemaQuestion
+  -- a plan in third normal form, of the fewest schemes
+  synthesize_fewest : SchemaQuestion
   -- a plan in Boyce-Codd or fourth normal form
   split : NormalForm → SchemaQuestion
   -- a plan in Boyce-Codd normal form, at any width
@@ -41,12 +47,16 @@ pub data SchemaQuestion : Type 0 where
   explain_keys : SchemaQuestion
   -- a plan in third normal form, and how it comes about
   explain_synthesize : SchemaQuestion
+  -- a plan in third normal form, of the fewest schemes, and how it comes about
+  explain_fewest : SchemaQuestion
   -- a plan in Boyce-Codd or fourth normal form, and how it comes about
   explain_split : NormalForm → SchemaQuestion
   -- SQL tables in a normal form
   ddl : NormalForm → SchemaQuestion
   -- queries for what breaks each rule in a table of this name
   sql_check : List ℕ → SchemaQuestion
+  -- queries for how far a table of this name is from legal
+  sql_measure : List ℕ → SchemaQuestion
   -- statements that make the tables of a normal form from a table of this name
   sql_migrate : NormalForm → List ℕ → SchemaQuestion
   -- a picture of the tables of a normal form
@@ -57,11 +67,13 @@ pub data PlanQuestion : Type 0 where
   -- whether the plan loses nothing
   check_join : PlanQuestion
   -- whether its schemes are in a normal form
-  check_form : NormalForm → PlanQuestion
+  check_form : TestedForm → PlanQuestion
   -- whether it keeps the functional dependencies
   check_keeps : PlanQuestion
   -- the keys of its schemes
   keys_of_plan : PlanQuestion
+  -- the normal forms of its schemes
+  forms_of_plan : PlanQuestion
   -- its SQL tables
   ddl_plan : PlanQuestion
   -- statements that make its tables from a table of this name
@@ -132,6 +144,10 @@ pub data CommandForm : Type 0 where
   discover : RulesQuestion → List ℕ → CommandForm
   -- all dependencies that the rows of a file obey
   discover_all : List ℕ → CommandForm
+  -- which columns of files reference which, over the rows of all of them
+  discover_references : List (List ℕ) → CommandForm
+  -- whether each row of a file, by columns of these names, has its match in a second file, by columns of others
+  check_references : List ℕ → List ℕ → List ℕ → List ℕ → CommandForm
   -- a schema of the columns of a file of rows
   import_csv : List ℕ → CommandForm
   -- a schema of a table that the SQL of a file defines
@@ -194,6 +210,15 @@ unfoldable pub schema_and_several : (List (List ℕ) → Task) → List (List �
 schema_and_several task [] = None
 schema_and_several task (schema ∷ words) = if are_one_to_64 words then Some (over_schema schema (task words)) else None
 
+-- from one file to the most files
+unfoldable pub several_files : (List (List ℕ) → CommandForm) → List (List ℕ) → Option CommandForm
+several_files form words = if are_one_to_64 words then Some (form words) else None
+
+-- two files, each with names of its columns
+unfoldable pub two_named_files : (List ℕ → List ℕ → List ℕ → List ℕ → CommandForm) → List (List ℕ) → Option CommandForm
+two_named_files form (file ∷ names ∷ other ∷ other_names ∷ []) = Some (form file names other other_names)
+two_named_files form _ = None
+
 -- one word
 unfoldable pub word_alone : (List ℕ → CommandForm) → List (List ℕ) → Option CommandForm
 word_alone form (word ∷ []) = Some (form word)
@@ -213,6 +238,12 @@ normal_form word =
     else if bytes_eq word (codes "4nf") then Some Fourth
     else None
 
+-- a normal form that a scheme is tested for
+unfoldable pub tested_form : List ℕ → Option TestedForm
+tested_form word =
+    if bytes_eq word (codes "2nf") then Some Second
+    else option_map (λ form. Higher form) (normal_form word)
+
 -- so many persons
 unfoldable pub persons_alone : List (List ℕ) → Option CommandForm
 persons_alone (word ∷ []) = if is_count word then Some (sample (number_of word)) else None
@@ -223,7 +254,7 @@ persons_alone _ = None
 unfoldable pub after_check_form : List (List ℕ) → Option CommandForm
 after_check_form [] = None
 after_check_form (what ∷ rest) =
-    option_and_then (λ form. schema_and_plan (check_form form) rest) (normal_form what)
+    option_and_then (λ form. schema_and_plan (check_form form) rest) (tested_form what)
 
 -- after `check`
 unfoldable pub after_check : List (List ℕ) → Option CommandForm
@@ -238,6 +269,7 @@ after_check (what ∷ rest) =
     else if bytes_eq what (codes "keeps") then schema_and_plan check_keeps rest
     else if bytes_eq what (codes "same") then two_schemas check_same rest
     else if bytes_eq what (codes "cover") then two_schemas check_cover rest
+    else if bytes_eq what (codes "references") then two_named_files check_references rest
     else None
 
 -- after `keys`
@@ -245,6 +277,23 @@ unfoldable pub after_keys : List (List ℕ) → Option CommandForm
 after_keys (schema ∷ []) = Some (over_schema schema (of_schema keys))
 after_keys (schema ∷ plan ∷ []) = Some (over_schema schema (of_plan plan keys_of_plan))
 after_keys _ = None
+
+-- after `form`
+unfoldable pub after_form : List (List ℕ) → Option CommandForm
+after_form (schema ∷ []) = Some (over_schema schema (of_schema form_of_all))
+after_form (schema ∷ plan ∷ []) = Some (over_schema schema (of_plan plan forms_of_plan))
+after_form _ = None
+
+-- after `synthesize`, a word and a schema
+abbrev pub synthesize_after_word : List ℕ → List ℕ → Option CommandForm
+synthesize_after_word what schema =
+    if bytes_eq what (codes "fewest") then Some (over_schema schema (of_schema synthesize_fewest)) else None
+
+-- after `synthesize`
+unfoldable pub after_synthesize : List (List ℕ) → Option CommandForm
+after_synthesize (schema ∷ []) = Some (over_schema schema (of_schema synthesize))
+after_synthesize (what ∷ schema ∷ []) = synthesize_after_word what schema
+after_synthesize _ = None
 
 -- after `split`
 unfoldable pub after_split : List (List ℕ) → Option CommandForm
@@ -254,6 +303,17 @@ after_split (what ∷ rest) =
     else if bytes_eq what (codes "4nf") then schema_alone (split Fourth) rest
     else if bytes_eq what (codes "wide-bcnf") then schema_alone split_wide rest
     else None
+
+-- after `explain synthesize`, a word and a schema
+abbrev pub explain_synthesize_after_word : List ℕ → List ℕ → Option CommandForm
+explain_synthesize_after_word what schema =
+    if bytes_eq what (codes "fewest") then Some (over_schema schema (of_schema explain_fewest)) else None
+
+-- after `explain synthesize`
+unfoldable pub after_explain_synthesize : List (List ℕ) → Option CommandForm
+after_explain_synthesize (schema ∷ []) = Some (over_schema schema (of_schema explain_synthesize))
+after_explain_synthesize (what ∷ schema ∷ []) = explain_synthesize_after_word what schema
+after_explain_synthesize _ = None
 
 -- after `explain split`
 unfoldable pub after_explain_split : List (List ℕ) → Option CommandForm
@@ -269,7 +329,7 @@ after_explain [] = None
 after_explain (what ∷ rest) =
     if bytes_eq what (codes "cover") then schema_alone explain_cover rest
     else if bytes_eq what (codes "keys") then schema_alone explain_keys rest
-    else if bytes_eq what (codes "synthesize") then schema_alone explain_synthesize rest
+    else if bytes_eq what (codes "synthesize") then after_explain_synthesize rest
     else if bytes_eq what (codes "split") then after_explain_split rest
     else None
 
@@ -327,6 +387,7 @@ unfoldable pub after_sql : List (List ℕ) → Option CommandForm
 after_sql [] = None
 after_sql (what ∷ rest) =
     if bytes_eq what (codes "check") then schema_and_word sql_check rest
+    else if bytes_eq what (codes "measure") then schema_and_word sql_measure rest
     else if bytes_eq what (codes "migrate") then after_sql_migrate rest
     else None
 
@@ -358,12 +419,19 @@ discover_after_numbers what limit most rows =
     then Some (discover (near_rules (number_of limit) (number_of most)) rows)
     else None
 
--- after `discover`
+-- after `discover`, what is asked of one file
+unfoldable pub discover_in_one : List (List ℕ) → Option CommandForm
+discover_in_one (rows ∷ []) = Some (discover minimal_rules rows)
+discover_in_one (what ∷ rows ∷ []) = discover_after_word what rows
+discover_in_one (what ∷ limit ∷ most ∷ rows ∷ []) = discover_after_numbers what limit most rows
+discover_in_one _ = None
+
+-- after `discover`; `references` alone is a file of this name
 unfoldable pub after_discover : List (List ℕ) → Option CommandForm
-after_discover (rows ∷ []) = Some (discover minimal_rules rows)
-after_discover (what ∷ rows ∷ []) = discover_after_word what rows
-after_discover (what ∷ limit ∷ most ∷ rows ∷ []) = discover_after_numbers what limit most rows
-after_discover _ = None
+after_discover [] = None
+after_discover (what ∷ rest) =
+    if nat_lt 0 (length rest) && bytes_eq what (codes "references") then several_files discover_references rest
+    else discover_in_one (what ∷ rest)
 
 -- what is asked of a schema, to the rows of a file
 unfoldable pub form_over_rows : List ℕ → List (List ℕ) → Option CommandForm
@@ -385,7 +453,8 @@ form_over_schema verb rest =
     else if bytes_eq verb (codes "closure") then schema_and_word closure rest
     else if bytes_eq verb (codes "project") then schema_and_word project rest
     else if bytes_eq verb (codes "keys") then after_keys rest
-    else if bytes_eq verb (codes "synthesize") then schema_alone synthesize rest
+    else if bytes_eq verb (codes "form") then after_form rest
+    else if bytes_eq verb (codes "synthesize") then after_synthesize rest
     else if bytes_eq verb (codes "split") then after_split rest
     else if bytes_eq verb (codes "exhibit") then schema_alone exhibit rest
     else if bytes_eq verb (codes "explain") then after_explain rest

@@ -6,7 +6,8 @@ ghost use Rattle.desk_words.specs.Forms as forms;
 
 use crate::command::Command;
 use crate::questions::{PlanQuestion, RowsQuestion, SchemaQuestion, Task};
-use crate::shapes::{is_word, normal_form, over, schema_and_plan, schema_and_rows};
+use crate::references::after_check_references;
+use crate::shapes::{is_word, over, schema_and_plan, schema_and_rows, tested_form};
 use arguments::Argument;
 
 /// After `check`.
@@ -43,6 +44,9 @@ pub fn after_check(words: &[Argument]) -> Option<Command<'_>>
     }
     if is_word(what, b"cover") {
         return after_check_cover(rest);
+    }
+    if is_word(what, b"references") {
+        return after_check_references(rest);
     }
     None
 }
@@ -94,7 +98,7 @@ fn after_check_form(words: &[Argument]) -> Option<Command<'_>>
     let [what, rest @ ..] = words else {
         return None;
     };
-    match normal_form(what) {
+    match tested_form(what) {
         Some(form) => schema_and_plan(PlanQuestion::CheckForm { form }, rest),
         None => None,
     }

@@ -12,7 +12,9 @@ use crate::rows::over_rows;
 use crate::rules::after_discover;
 use crate::sets::{after_basis, after_closure, after_implies, after_project};
 use crate::shapes::{is_word, no_more_arguments, schema_alone};
-use crate::tables::{after_ddl, after_draw, after_keys, after_split, after_sql};
+use crate::tables::{
+    after_ddl, after_draw, after_form, after_keys, after_split, after_sql, after_synthesize,
+};
 use arguments::Argument;
 use sample_rows::Persons;
 use sql_lexemes::Dialect;
@@ -36,6 +38,18 @@ pub enum Command<'a> {
     /// All dependencies that the rows of a file obey.
     DiscoverAll {
         file: &'a Argument,
+    },
+    /// Which columns of files reference which, over the rows of all of them.
+    DiscoverReferences {
+        files: &'a [Argument],
+    },
+    /// Whether each row of a file, by columns of these names, has its match in another file, by columns of
+    /// others.
+    CheckReferences {
+        file: &'a Argument,
+        names: &'a Argument,
+        other: &'a Argument,
+        other_names: &'a Argument,
     },
     /// A schema of the columns of a file of rows.
     ImportCsv {
@@ -123,8 +137,11 @@ fn over_schema<'a>(verb: &Argument, rest: &'a [Argument]) -> Option<Command<'a>>
     if is_word(verb, b"keys") {
         return after_keys(rest);
     }
+    if is_word(verb, b"form") {
+        return after_form(rest);
+    }
     if is_word(verb, b"synthesize") {
-        return schema_alone(SchemaQuestion::Synthesize, rest);
+        return after_synthesize(rest);
     }
     if is_word(verb, b"split") {
         return after_split(rest);

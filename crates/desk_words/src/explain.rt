@@ -5,8 +5,8 @@ ghost use Rattle.desk_words.specs.Commands.{command_form};
 ghost use Rattle.desk_words.specs.Forms as forms;
 
 use crate::command::Command;
-use crate::questions::SchemaQuestion;
-use crate::shapes::{is_word, schema_alone};
+use crate::questions::{SchemaQuestion, Task};
+use crate::shapes::{is_word, over, schema_alone};
 use arguments::Argument;
 use dep_model::Form;
 
@@ -25,12 +25,45 @@ pub fn after_explain(words: &[Argument]) -> Option<Command<'_>>
         return schema_alone(SchemaQuestion::ExplainKeys, rest);
     }
     if is_word(what, b"synthesize") {
-        return schema_alone(SchemaQuestion::ExplainSynthesize, rest);
+        return after_explain_synthesize(rest);
     }
     if is_word(what, b"split") {
         return after_explain_split(rest);
     }
     None
+}
+
+// After `explain synthesize`.
+#[tactic(auto, unfolding(crate::specs::Forms::after_explain_synthesize))]
+fn after_explain_synthesize(words: &[Argument]) -> Option<Command<'_>>
+    ensures form { option_map command_form result ≡ forms.after_explain_synthesize words.now }
+{
+    match words {
+        [schema] => over(
+            schema,
+            Task::OfSchema {
+                question: SchemaQuestion::ExplainSynthesize,
+            },
+        ),
+        [what, schema] => after_explain_fewest(what, schema),
+        _ => None,
+    }
+}
+
+// After `explain synthesize`, a word and a schema.
+fn after_explain_fewest<'a>(what: &Argument, schema: &'a Argument) -> Option<Command<'a>>
+    ensures form { option_map command_form result
+        ≡ forms.explain_synthesize_after_word what.now schema.now }
+{
+    if !is_word(what, b"fewest") {
+        return None;
+    }
+    over(
+        schema,
+        Task::OfSchema {
+            question: SchemaQuestion::ExplainFewest,
+        },
+    )
 }
 
 // After `explain split`.

@@ -1,6 +1,7 @@
 use crate::bounds::LeftBound;
 use arguments::Argument;
 use dep_model::Form;
+use which_form::TestedForm;
 
 /// What is asked of a schema alone, with the words that go with it.
 #[derive(Clone, Copy, Debug)]
@@ -17,10 +18,14 @@ pub enum SchemaQuestion<'a> {
     Project { set: &'a Argument },
     /// All its keys.
     Keys,
+    /// The normal form of the scheme of all its attributes.
+    FormOfAll,
     /// Whether a set of attributes is a key.
     CheckKey { set: &'a Argument },
     /// A plan in third normal form.
     Synthesize,
+    /// A plan in third normal form, of the fewest schemes.
+    SynthesizeFewest,
     /// A plan in Boyce-Codd or fourth normal form.
     Split { form: Form },
     /// A plan in Boyce-Codd normal form, at any width.
@@ -33,12 +38,16 @@ pub enum SchemaQuestion<'a> {
     ExplainKeys,
     /// A plan in third normal form, and how it comes about.
     ExplainSynthesize,
+    /// A plan in third normal form, of the fewest schemes, and how it comes about.
+    ExplainFewest,
     /// A plan in Boyce-Codd or fourth normal form, and how it comes about.
     ExplainSplit { form: Form },
     /// SQL tables in a normal form.
     Ddl { form: Form },
     /// Queries for what breaks each rule in a table of this name.
     SqlCheck { name: &'a Argument },
+    /// Queries for how far a table of this name is from legal.
+    SqlMeasure { name: &'a Argument },
     /// Statements that make the tables of a normal form from a table of this name.
     SqlMigrate { form: Form, name: &'a Argument },
     /// A picture of the tables of a normal form.
@@ -51,11 +60,13 @@ pub enum PlanQuestion<'a> {
     /// Whether the plan loses nothing.
     CheckJoin,
     /// Whether its schemes are in a normal form.
-    CheckForm { form: Form },
+    CheckForm { form: TestedForm },
     /// Whether it keeps the functional dependencies.
     CheckKeeps,
     /// The keys of its schemes.
     Keys,
+    /// The normal forms of its schemes.
+    Forms,
     /// Its SQL tables.
     Ddl,
     /// Statements that make its tables from a table of this name.

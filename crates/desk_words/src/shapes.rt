@@ -8,6 +8,7 @@ use crate::command::Command;
 use crate::questions::{PlanQuestion, RowsQuestion, SchemaQuestion, Task};
 use arguments::Argument;
 use dep_model::Form;
+use which_form::TestedForm;
 
 /// Whether a word is this one.
 pub fn is_word(word: &Argument, name: &[u8]) -> bool
@@ -26,6 +27,20 @@ pub fn normal_form(word: &Argument) -> Option<Form>
         b"bcnf" => Some(Form::Bcnf),
         b"4nf" => Some(Form::Fourth),
         _ => None,
+    }
+}
+
+/// The normal form that a word names, of those that a scheme is tested for.
+#[tactic(auto, unfolding(crate::specs::Forms::tested_form))]
+pub fn tested_form(word: &Argument) -> Option<TestedForm>
+    ensures form { result ≡ forms.tested_form word.now }
+{
+    if is_word(word, b"2nf") {
+        return Some(TestedForm::Second);
+    }
+    match normal_form(word) {
+        Some(form) => Some(TestedForm::Higher { form }),
+        None => None,
     }
 }
 

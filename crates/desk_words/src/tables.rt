@@ -1,4 +1,5 @@
-//! The words after the commands that make plans, SQL tables, scripts and pictures.
+//! The words after the commands on keys, normal forms and plans, and those that make SQL tables, scripts
+//! and pictures.
 
 ghost use Rattle.std.specs.Prelude.{◌≡◌, option_map};
 ghost use Rattle.desk_words.specs.Commands.{command_form};
@@ -31,6 +32,62 @@ pub fn after_keys(words: &[Argument]) -> Option<Command<'_>>
         ),
         _ => None,
     }
+}
+
+/// After `form`.
+#[tactic(auto, unfolding(crate::specs::Forms::after_form))]
+pub fn after_form(words: &[Argument]) -> Option<Command<'_>>
+    ensures form { option_map command_form result ≡ forms.after_form words.now }
+{
+    match words {
+        [schema] => over(
+            schema,
+            Task::OfSchema {
+                question: SchemaQuestion::FormOfAll,
+            },
+        ),
+        [schema, plan] => over(
+            schema,
+            Task::OfPlan {
+                plan,
+                question: PlanQuestion::Forms,
+            },
+        ),
+        _ => None,
+    }
+}
+
+/// After `synthesize`.
+#[tactic(auto, unfolding(crate::specs::Forms::after_synthesize))]
+pub fn after_synthesize(words: &[Argument]) -> Option<Command<'_>>
+    ensures form { option_map command_form result ≡ forms.after_synthesize words.now }
+{
+    match words {
+        [schema] => over(
+            schema,
+            Task::OfSchema {
+                question: SchemaQuestion::Synthesize,
+            },
+        ),
+        [what, schema] => after_synthesize_fewest(what, schema),
+        _ => None,
+    }
+}
+
+// After `synthesize`, a word and a schema.
+fn after_synthesize_fewest<'a>(what: &Argument, schema: &'a Argument) -> Option<Command<'a>>
+    ensures form { option_map command_form result
+        ≡ forms.synthesize_after_word what.now schema.now }
+{
+    if !is_word(what, b"fewest") {
+        return None;
+    }
+    over(
+        schema,
+        Task::OfSchema {
+            question: SchemaQuestion::SynthesizeFewest,
+        },
+    )
 }
 
 /// After `split`.
@@ -89,10 +146,29 @@ pub fn after_sql(words: &[Argument]) -> Option<Command<'_>>
             },
         );
     }
+    if is_word(what, b"measure") {
+        return after_sql_measure(rest);
+    }
     if is_word(what, b"migrate") {
         return after_sql_migrate(rest);
     }
     None
+}
+
+// A schema and the name of a table.
+#[tactic(auto, unfolding(crate::specs::Forms::schema_and_word))]
+fn after_sql_measure(words: &[Argument]) -> Option<Command<'_>>
+    ensures form { option_map command_form result ≡ forms.schema_and_word forms.sql_measure words.now }
+{
+    match words {
+        [schema, name] => over(
+            schema,
+            Task::OfSchema {
+                question: SchemaQuestion::SqlMeasure { name },
+            },
+        ),
+        _ => None,
+    }
 }
 
 // After `sql migrate`.

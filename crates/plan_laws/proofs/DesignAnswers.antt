@@ -14,7 +14,7 @@ use Rattle.desk_responses.specs.declared.status.Status.TheVariants.{Yes, Refused
 use Rattle.desk_designs.specs.Designs.{WithoutMissing, WritesTables, WritesForm, WritesSchemes, WritesPlan}
 use Rattle.desk_designs.specs.Drawings.{DrawsTables, DrawsForm, DrawsSchemes}
 use Rattle.desk_designs.specs.Joins.{IsShownLossless, LossStops, WithoutLoss}
-use Rattle.desk_scripts.specs.Scripts.{AsksTable, MetNameStops, MakesSchemes, MakesTables, ScriptsCheck, ScriptsMigration, ScriptsMigrationByPlan, TableNameStops, WithTableName, met_table_text}
+use Rattle.desk_scripts.specs.Scripts.{AsksTable, MeasuresTable, MetNameStops, MakesSchemes, MakesTables, ScriptsCheck, ScriptsMeasure, ScriptsMigration, ScriptsMigrationByPlan, TableNameStops, WithTableName, met_table_text}
 use Rattle.desk_designs.specs.Decompositions.{WithPlanInForm}
 use Rattle.plan_laws.proofs.DesignTexts.{ddl_same, drawing_same}
 use Rattle.plan_laws.proofs.MissingAnswers.{one_without_missing, same_without_missing}
@@ -74,6 +74,10 @@ one_after_name name rest one_rest =
 pub one_check_scripted : (s : Schema) (name : List ℕ) → AllowsOne (ScriptsCheck s name)
 one_check_scripted s name =
     one_after_name name (AsksTable s name) (λ one other first second. first.1 ∙ sym second.1)
+
+pub one_measure_scripted : (s : Schema) (name : List ℕ) → AllowsOne (ScriptsMeasure s name)
+one_measure_scripted s name =
+    one_after_name name (MeasuresTable s name) (λ one other first second. first.1 ∙ sym second.1)
 
 one_made : (s : Schema) (names : GivenNames) (name : List ℕ) (plan others : List AttrSet) (one other : ResponseValue)
     → schemes_of plan ≡ schemes_of others → MakesTables s names name plan one → MakesTables s names name others other

@@ -18,3 +18,7 @@ pub mod PlacedAnswers
 pub mod FolderAnswers
 pub mod SampleAnswers
 pub mod ReasonAnswers
+pub mod FormAnswers
+mod OneGrouping
+pub mod FewestAnswers
+mod FewestPlans

@@ -1,5 +1,6 @@
--- Plans whose schemes are in a form pass the test of that form, lossless plans that of their join.
-use Rattle.std.proofs.Common.{◌≡◌, ◌≤◌, ◌++◌, ℕ, List, [], ◌∷◌, length, get_or, refl, sym, ap, subst, inl, inr, arith}
+-- Plans whose schemes are in a form pass the test of that form, in third form that of second too, and lossless plans that
+-- of their join.
+use Rattle.std.proofs.Common.{◌≡◌, ◌≤◌, ◌++◌, ◌∙◌, ℕ, List, [], ◌∷◌, length, get_or, refl, sym, ap, subst, inl, inr, arith}
 use Rattle.std.specs.Prelude.{All, Contains}
 use Rattle.std.proofs.lemmas.List.{length-map}
 use Rattle.std.proofs.lemmas.Bool.{cases_Bool}
@@ -16,21 +17,31 @@ use Rattle.dep_model.proofs.FormLemmas.{fourth_bcnf}
 use Rattle.dep_model.proofs.ListLemmas.{Any-from}
 use Rattle.implication_laws.proofs.OnePlanAnswer.{failing_in_plan}
 use Rattle.fd_closure.specs.LeftSides.{IsWideScheme}
+use Rattle.dep_model.specs.Forms.{IsThird}
 use Rattle.normal_forms.specs.Chosen.{IsInForm}
 use Rattle.normal_forms.specs.Violations.{Violates}
 use Rattle.dep_model.specs.declared.form.Form.{Form}
 use Rattle.dep_model.specs.declared.form.Form.TheVariants.{Third, Bcnf, Fourth}
 use Rattle.normal_forms.proofs.ViolationLemmas.{not_in_form}
+use Rattle.which_form.specs.declared.forms.TestedForm.{TestedForm}
+use Rattle.which_form.specs.declared.forms.TestedForm.TheVariants.{Second, Higher}
+use Rattle.which_form.specs.SecondForm.{IsSecond}
+use Rattle.which_form.specs.Tested.{IsInTested, IsNamedViolation}
+use Rattle.which_form.proofs.SecondLemmas.{third_second, violates_not_second}
 use Rattle.plans.specs.Containing.{is_contained, without_contained_after, without_contained}
 use Rattle.split_forms.specs.Splitting.{StaysWhole}
 use Rattle.split_forms.proofs.WalkLemmas.{reached_plan}
 use Rattle.wide_bcnf.proofs.SplitLemmas.{schema_parts}
-use Rattle.desk_responses.specs.ResponseValues.{ResponseValue}
+use Rattle.desk_responses.specs.declared.status.Status.TheVariants.{Yes, No}
+use Rattle.desk_responses.specs.ResponseValues.{ResponseValue, Says}
 use Rattle.desk_designs.specs.declared.join.TheConstants.{MOST_TABLEAU_ROWS}
 use Rattle.desk_designs.specs.Decompositions.{IsPlanInForm, IsSplitInForm, IsWideSplit}
 use Rattle.desk_designs.specs.Joins.{IsTooLarge, LosesNothing}
-use Rattle.desk_designs.specs.NormalForms.{PassesForm}
+use Rattle.desk_designs.specs.NormalForms.{JudgesForm, PassesForm, in_form_text, violated_text}
 use Rattle.desk_designs.specs.Synthesis.{IsThirdFormPlan}
+use Rattle.desk_responses.specs.Lines.{too_wide_text}
+use Rattle.schema_printer.specs.Spelling.{printed_names_of}
+use Rattle.desk_designs.proofs.StatusLemmas.{refused_not_yes}
 use Rattle.plan_laws.specs.Passing.{PassesCheckForm, PassesCheckJoin, PassesCheckKeeps}
 
 -- ---- schemes in a form
@@ -47,20 +58,61 @@ not_violated n ds Bcnf scheme x y low formed violates =
 not_violated n ds Fourth scheme x y low formed violates =
     not_in_form n ds Fourth scheme x y (low (λ same. cc)) violates formed
 
-form_passes : (s : Schema) (form : Form) (plan : List Attributes)
-    → ((form ≡ Third → ⊥) → All (λ scheme. IsSubset scheme (below (width_of s))) plan)
-    → All (IsInForm (width_of s) (theory_of s) form) plan → PassesCheckForm s form plan
-form_passes s form plan low formed response (inl passed) = inl passed.1
-form_passes s form plan low formed response (inr (scheme, first, inl (wide, says))) =
+-- where no violation is named of a scheme of a plan that is in the form
+passes_by : (s : Schema) (form : TestedForm) (plan : List Attributes)
+    → ((scheme x y : Attributes) → Contains plan scheme → IsInTested (width_of s) (theory_of s) form scheme
+    → IsNamedViolation (width_of s) (theory_of s) form scheme x y → ⊥)
+    → All (IsInTested (width_of s) (theory_of s) form) plan → PassesCheckForm s form plan
+passes_by s form plan none formed response (inl passed) = inl passed.1
+passes_by s form plan none formed response (inr (scheme, first, inl (wide, says))) =
     inr (
       Any-from (IsWideScheme (theory_of s)) plan scheme (failing_in_plan (PassesForm s form) plan scheme first) wide,
       ap (λ (r : ResponseValue). r.status) says,
     )
-form_passes s form plan low formed response (inr (scheme, first, inr (narrow, found))) =
+passes_by s form plan none formed response (inr (scheme, first, inr (narrow, found))) =
     let within = failing_in_plan (PassesForm s form) plan scheme first in
-    absurd (not_violated (width_of s) (theory_of s) form scheme found.0 found.1
-    (λ other. All-contains (λ (z : Attributes). IsSubset z (below (width_of s))) plan scheme (low other) within)
-    (All-contains (IsInForm (width_of s) (theory_of s) form) plan scheme formed within) found.2.violates)
+    absurd (none scheme found.0 found.1 within
+    (All-contains (IsInTested (width_of s) (theory_of s) form) plan scheme formed within) found.2)
+
+pub form_passes : (s : Schema) (form : Form) (plan : List Attributes)
+    → ((form ≡ Third → ⊥) → All (λ scheme. IsSubset scheme (below (width_of s))) plan)
+    → All (IsInForm (width_of s) (theory_of s) form) plan → PassesCheckForm s (Higher form) plan
+form_passes s form plan low formed =
+    passes_by s (Higher form) plan (λ scheme x y within is named.
+    not_violated (width_of s) (theory_of s) form scheme x y
+    (λ other. All-contains (λ (z : Attributes). IsSubset z (below (width_of s))) plan scheme (low other) within) is named.violates)
+    formed
+
+-- plans in third form are in second
+second_passes : (s : Schema) (plan : List Attributes) → All (IsThird (width_of s) (theory_of s)) plan
+    → PassesCheckForm s Second plan
+second_passes s plan third =
+    passes_by s Second plan
+    (λ scheme x y within is named. violates_not_second (width_of s) (theory_of s) scheme x y named.violates is)
+    (All-weaker (IsThird (width_of s) (theory_of s)) (IsSecond (width_of s) (theory_of s))
+    (third_second (width_of s) (theory_of s)) plan third)
+
+no_not_yes : (text : List ℕ) (response : ResponseValue) → Says No text response → response.status ≡ Yes → ⊥
+no_not_yes text response says yes =
+    let is : No ≡ Yes = sym (ap (λ (r : ResponseValue). r.status) says) ∙ yes in
+    cc
+
+pub third_is_second : (s : Schema) (plan : List Attributes) (third second : ResponseValue)
+    → JudgesForm s (Higher Third) plan third → third.status ≡ Yes → JudgesForm s Second plan second
+    → Says Yes (in_form_text Second) second
+third_is_second s plan third second (inl passed) yes (inl (all, says)) = says
+third_is_second s plan third second (inl passed) yes (inr (scheme, first, ends)) =
+    let within = failing_in_plan (PassesForm s Second) plan scheme first in
+    let passes = All-contains (PassesForm s (Higher Third)) plan scheme passed.0 within in
+    absurd (elim ends [
+      | inl wide ↦ passes.narrow wide.0
+      | inr found ↦ violates_not_second (width_of s) (theory_of s) scheme found.1.0 found.1.1 found.1.2.violates
+          (third_second (width_of s) (theory_of s) scheme passes.in_form)
+    ])
+third_is_second s plan third second (inr (scheme, first, inl (wide, says))) yes judged =
+    absurd (refused_not_yes (too_wide_text (printed_names_of s) scheme) third says yes)
+third_is_second s plan third second (inr (scheme, first, inr (narrow, found))) yes judged =
+    absurd (no_not_yes (violated_text (printed_names_of s) (Higher Third) scheme found.0 found.1) third found.3 yes)
 
 join_passes : (s : Schema) (plan : List Attributes) → LosesNothing s plan → PassesCheckJoin s plan
 join_passes s plan lossless response (inl (inl (fits, lossy, found))) = absurd (lossy lossless)
@@ -100,11 +152,11 @@ split_low s form plan is other =
     is.split.finished.reached).within
 
 pub split_passes : (s : Schema) (form : Form) (plan : List AttrSet) → IsSplitInForm s form plan
-    → PassesCheckForm s form (schemes_of plan)
+    → PassesCheckForm s (Higher form) (schemes_of plan)
 split_passes s form plan is = form_passes s form (schemes_of plan) (split_low s form plan is) is.in_form
 
 pub fourth_passes : (s : Schema) (plan : List AttrSet) → IsSplitInForm s Fourth plan
-    → PassesCheckForm s Bcnf (schemes_of plan)
+    → PassesCheckForm s (Higher Bcnf) (schemes_of plan)
 fourth_passes s plan is =
     let n = width_of s in
     let ds = theory_of s in
@@ -113,11 +165,15 @@ fourth_passes s plan is =
     (λ k d l. fourth_bcnf n ds (get_or (schemes_of plan) k d) (low k d l) (is.in_form k d l))
 
 -- ---- the plans of forms
-third_passes : (s : Schema) (plan : List AttrSet) → IsThirdFormPlan s plan → PassesCheckForm s Third (schemes_of plan)
+third_passes : (s : Schema) (plan : List AttrSet) → IsThirdFormPlan s plan → PassesCheckForm s (Higher Third) (schemes_of plan)
+
 third_passes s plan is = form_passes s Third (schemes_of plan) (λ other. absurd (other refl)) is.third
 
+pub third_plan_second : (s : Schema) (plan : List AttrSet) → IsThirdFormPlan s plan → PassesCheckForm s Second (schemes_of plan)
+third_plan_second s plan is = second_passes s (schemes_of plan) is.third
+
 pub planned_form : (s : Schema) (form : Form) (plan : List AttrSet) → IsPlanInForm s form plan
-    → PassesCheckForm s form (schemes_of plan)
+    → PassesCheckForm s (Higher form) (schemes_of plan)
 planned_form s Third plan is = third_passes s plan is
 planned_form s Bcnf plan is = split_passes s Bcnf plan is
 planned_form s Fourth plan is = split_passes s Fourth plan is
@@ -137,7 +193,7 @@ third_keeps s plan is response (inl (keeps, says)) = says
 third_keeps s plan is response (inr (lost, found)) = absurd (lost is.keeps)
 
 -- ---- wide splits
-pub wide_split_form : (s : Schema) (plan : List AttrSet) → IsWideSplit s plan → PassesCheckForm s Bcnf (schemes_of plan)
+pub wide_split_form : (s : Schema) (plan : List AttrSet) → IsWideSplit s plan → PassesCheckForm s (Higher Bcnf) (schemes_of plan)
 wide_split_form s plan is =
     form_passes s Bcnf (schemes_of plan)
     (λ other. plan_all (λ (x : Attributes). IsSubset x (below (width_of s))) is.split.all plan is.split.kept

@@ -80,7 +80,7 @@ spare_is earlier (x ∷ later) =
           subst (λ (b : Bool). schemes_of (if b then x ∷ rest else rest) ≡ (if b then attributes x ∷ those else those)) (sym kept) same
     ])
 
-left_out_same : (names : List (List ℕ)) (all others : List AttrSet) → schemes_of all ≡ schemes_of others
+pub left_out_same : (names : List (List ℕ)) (all others : List AttrSet) → schemes_of all ≡ schemes_of others
     → left_out_text names all ≡ left_out_text names others
 left_out_same names all others same =
     let of_sets : List Attributes → List ℕ = λ xs. flat_map (told_of names (kept_after [] xs)) (spare_after [] xs) in

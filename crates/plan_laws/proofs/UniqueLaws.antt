@@ -21,12 +21,12 @@ use Rattle.schema_model.specs.Schemas.{Schema}
 use Rattle.dep_model.proofs.ListLemmas.{Contains-head}
 use Rattle.dep_model.specs.declared.form.Form.{Form}
 use Rattle.dep_model.specs.declared.form.Form.TheVariants.{Third}
+use Rattle.which_form.specs.declared.forms.TestedForm.{TestedForm}
+use Rattle.which_form.proofs.SecondLemmas.{named_not_in_form, one_named}
 use Rattle.primary_keys.proofs.PrimaryLemmas.{one_primary}
 use Rattle.plans.specs.Containing.{is_contained, without_contained_after, without_contained}
 use Rattle.preservation.specs.Keeping.{IsPreserved, IsLostOn, LossesFrom}
 use Rattle.preservation.specs.declared.losing.Loss.{Loss}
-use Rattle.normal_forms.proofs.ViolationLemmas.{not_in_form}
-use Rattle.normal_forms.proofs.UniqueLemmas.{one_chosen}
 use Rattle.schema_printer.specs.Spelling.{printed_names_of}
 use Rattle.synthesis_3nf.specs.Groups.{schemes_of_groups}
 use Rattle.synthesis_3nf.specs.GroupedPlans.{AreSynthesisSteps, IsWithKey, IsGroupedPlan}
@@ -93,7 +93,7 @@ kept_is earlier (x ∷ later) =
           (ap (λ (l : List Attributes). attributes x ∷ l) same)
     ])
 
-kept_same : (all others plan other : List AttrSet) → plan ≡ without_contained all → other ≡ without_contained others
+pub kept_same : (all others plan other : List AttrSet) → plan ≡ without_contained all → other ≡ without_contained others
     → schemes_of all ≡ schemes_of others → schemes_of plan ≡ schemes_of other
 kept_same all others plan other kept also same =
     ap schemes_of kept ∙ kept_is [] all ∙ ap (λ (l : List Attributes). kept_after [] l) same ∙ sym (kept_is [] others)
@@ -114,7 +114,7 @@ wide_split_same s plan other one two =
     one.split.split two.split.split)
 
 -- ---- the plan of third form
-with_key_same : (n : ℕ) (ds : List Dependency) (nullable : Attributes) (schemes one other : List Attributes)
+pub with_key_same : (n : ℕ) (ds : List Dependency) (nullable : Attributes) (schemes one other : List Attributes)
     → IsWithKey n ds nullable schemes one → IsWithKey n ds nullable schemes other → one ≡ other
 with_key_same n ds nullable schemes one other (inl (held, first)) (inl (also, second)) = first ∙ sym second
 with_key_same n ds nullable schemes one other (inl (held, first)) (inr second) = absurd (second.none held)
@@ -239,20 +239,20 @@ one_keeping s plan one other (inr (lost, found)) (inr (lost', found')) =
     ∙ sym found'.4
 
 -- ---- `check form`
-ends_fails : (s : Schema) (form : Form) (scheme : Attributes) (response : ResponseValue)
+ends_fails : (s : Schema) (form : TestedForm) (scheme : Attributes) (response : ResponseValue)
     → IsSubset scheme (below (width_of s)) → EndsForm s form scheme response → PassesForm s form scheme → ⊥
 ends_fails s form scheme response low (inl (wide, says)) passes = passes.narrow wide
 ends_fails s form scheme response low (inr (narrow, found)) passes =
-    not_in_form (width_of s) (theory_of s) form scheme found.0 found.1 low found.2.violates passes.in_form
+    named_not_in_form (width_of s) (theory_of s) form scheme found.0 found.1 low found.2 passes.in_form
 
-one_end : (s : Schema) (form : Form) (scheme : Attributes) (one other : ResponseValue)
+one_end : (s : Schema) (form : TestedForm) (scheme : Attributes) (one other : ResponseValue)
     → IsSubset scheme (below (width_of s)) → EndsForm s form scheme one → EndsForm s form scheme other → one ≡ other
 one_end s form scheme one other low (inl (wide, says)) (inl (wide', says')) = says ∙ sym says'
 one_end s form scheme one other low (inl (wide, says)) (inr (narrow, found)) = absurd (narrow wide)
 one_end s form scheme one other low (inr (narrow, found)) (inl (wide, says)) = absurd (narrow wide)
 one_end s form scheme one other low (inr (narrow, found)) (inr (narrow', found')) =
     let same =
-    one_chosen (width_of s) (theory_of s) form scheme found.0 found.1 found'.0 found'.1 low found.2 found'.2 in
+    one_named (width_of s) (theory_of s) form scheme found.0 found.1 found'.0 found'.1 low found.2 found'.2 in
     found.3
     ∙ ap (λ (x : Attributes). text_only No (violated_text (printed_names_of s) form scheme x found.1)) same.0
     ∙ ap (λ (y : Attributes). text_only No (violated_text (printed_names_of s) form scheme found'.0 y)) same.1
@@ -265,7 +265,7 @@ first_low n P plan scheme low first =
     (subst (λ (l : List Attributes). Contains l scheme) (sym first.list)
     (Contains-append_right first.earlier (scheme ∷ first.later) scheme (Contains-head scheme first.later)))
 
-passed_fails : (s : Schema) (form : Form) (plan : List Attributes) (scheme : Attributes) (response : ResponseValue)
+passed_fails : (s : Schema) (form : TestedForm) (plan : List Attributes) (scheme : Attributes) (response : ResponseValue)
     → All (λ x. IsSubset x (below (width_of s))) plan → All (PassesForm s form) plan
     → IsFirstFailing (PassesForm s form) plan scheme → EndsForm s form scheme response → ⊥
 passed_fails s form plan scheme response low passed first ends =
@@ -274,7 +274,7 @@ passed_fails s form plan scheme response low passed first ends =
     (subst (λ (l : List Attributes). Contains l scheme) (sym first.list)
     (Contains-append_right first.earlier (scheme ∷ first.later) scheme (Contains-head scheme first.later))))
 
-pub one_form : (s : Schema) (form : Form) (plan : List Attributes) (one other : ResponseValue)
+pub one_form : (s : Schema) (form : TestedForm) (plan : List Attributes) (one other : ResponseValue)
     → IsPlan (width_of s) plan
     → JudgesForm s form plan one → JudgesForm s form plan other → one ≡ other
 one_form s form plan one other valid (inl (passed, says)) (inl (passed', says')) = says ∙ sym says'

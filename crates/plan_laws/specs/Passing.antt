@@ -4,7 +4,7 @@ use Rattle.std.specs.Prelude.{◌≡◌, ◌⊎◌, List, Any}
 use Rattle.attr_sets.specs.Attributes.{Attributes}
 use Rattle.schema_model.specs.Schemas.{Schema}
 use Rattle.schema_model.specs.Schemas.{theory_of}
-use Rattle.dep_model.specs.declared.form.Form.{Form}
+use Rattle.which_form.specs.declared.forms.TestedForm.{TestedForm}
 use Rattle.fd_closure.specs.LeftSides.{IsWideScheme}
 use Rattle.desk_responses.specs.declared.status.Status.TheVariants.{Yes, Refused}
 use Rattle.desk_responses.specs.ResponseValues.{ResponseValue, Says}
@@ -13,7 +13,7 @@ use Rattle.desk_designs.specs.Joins.{JudgesJoin, IsTooLarge, lossless_text}
 use Rattle.desk_designs.specs.Keeping.{JudgesKeeping, kept_text}
 
 -- `check form` says yes of a plan, or refuses it for a scheme that is too wide to be searched
-abbrev pub PassesCheckForm : Schema → Form → List Attributes → Type 0
+abbrev pub PassesCheckForm : Schema → TestedForm → List Attributes → Type 0
 PassesCheckForm schema form plan =
     (response : ResponseValue) → JudgesForm schema form plan response
     → Says Yes (in_form_text form) response ⊎ (Any (IsWideScheme (theory_of schema)) plan × (response.status ≡ Refused))

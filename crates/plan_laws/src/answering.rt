@@ -2,8 +2,9 @@
 
 ghost use Rattle.std.specs.Prelude.{◌≤◌, ℕ, List};
 ghost use Rattle.attr_sets.specs.Attributes.{Attributes};
+ghost use Rattle.dep_model.specs.Plans.{IsPlan};
 ghost use Rattle.dep_model.specs.Tuples.{Relation};
-ghost use Rattle.schema_model.specs.Schemas.{Schema};
+ghost use Rattle.schema_model.specs.Schemas.{Schema, width_of};
 ghost use Rattle.dep_model.specs.declared.form.Form.{Form};
 ghost use Rattle.sample_rows.specs.declared.rows.TheConstants.{MOST_PERSONS};
 ghost use Rattle.table_join.specs.Tables.{PartialRelation};
@@ -12,7 +13,10 @@ ghost use Rattle.implication_laws.specs.OneAnswer.{AllowsOne};
 ghost use Rattle.desk_designs.specs.Decompositions.{Splits, SplitsWide};
 ghost use Rattle.desk_designs.specs.Designs.{WritesForm, WritesPlan};
 ghost use Rattle.desk_designs.specs.Drawings.{DrawsForm, DrawsSchemes};
-ghost use Rattle.desk_scripts.specs.Scripts.{ScriptsCheck, ScriptsMigration, ScriptsMigrationByPlan};
+ghost use Rattle.desk_designs.specs.FewestReasons.{ExplainsFewest};
+ghost use Rattle.desk_designs.specs.FewestTables.{SynthesizesFewest};
+ghost use Rattle.desk_designs.specs.FormsOfSchemes.{ListsFormOfAll, ListsFormsOfPlan};
+ghost use Rattle.desk_scripts.specs.Scripts.{ScriptsCheck, ScriptsMeasure, ScriptsMigration, ScriptsMigrationByPlan};
 ghost use Rattle.desk_designs.specs.SplitReasons.{ExplainsSplit};
 ghost use Rattle.desk_designs.specs.SynthesisReasons.{ExplainsSynthesis};
 ghost use Rattle.desk_tables.specs.Legality.{JudgesRows};
@@ -27,9 +31,23 @@ pub fn one_answer_of_split()
     ensures wide { (schema : Schema) → AllowsOne (SplitsWide schema) }
 {}
 
-/// `explain synthesize` and `explain split` have one answer to a schema, and to a schema and a form.
+/// `form` has one answer to a schema, and to a schema and a plan.
+pub fn one_answer_of_form()
+    ensures all { (schema : Schema) → AllowsOne (ListsFormOfAll schema) }
+    ensures plan { (schema : Schema) (plan : List Attributes) → IsPlan (width_of schema) plan
+        → AllowsOne (ListsFormsOfPlan schema plan) }
+{}
+
+/// `synthesize fewest` has one answer to a schema.
+pub fn one_answer_of_synthesize_fewest()
+    ensures law { (schema : Schema) → AllowsOne (SynthesizesFewest schema) }
+{}
+
+/// `explain synthesize`, `explain synthesize fewest` and `explain split` have one answer to a schema, and to
+/// a schema and a form.
 pub fn one_answer_of_plan_reasons()
     ensures synthesis { (schema : Schema) → AllowsOne (ExplainsSynthesis schema) }
+    ensures fewest { (schema : Schema) → AllowsOne (ExplainsFewest schema) }
     ensures split { (schema : Schema) (form : Form) → AllowsOne (ExplainsSplit schema form) }
 {}
 
@@ -50,6 +68,11 @@ pub fn one_answer_of_draw()
 /// `sql check` has one answer to a schema and a name.
 pub fn one_answer_of_sql_check()
     ensures law { (schema : Schema) (name : List ℕ) → AllowsOne (ScriptsCheck schema name) }
+{}
+
+/// `sql measure` has one answer to a schema and a name.
+pub fn one_answer_of_sql_measure()
+    ensures law { (schema : Schema) (name : List ℕ) → AllowsOne (ScriptsMeasure schema name) }
 {}
 
 /// `sql migrate` has one answer to a schema, a form or a plan, and a name.

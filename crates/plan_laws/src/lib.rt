@@ -11,20 +11,23 @@
 
 mod answering;
 mod designed;
+mod fewest;
 mod passing;
 mod rejoined;
 mod unique;
 
 pub use answering::{
-    one_answer_of_check_rows, one_answer_of_ddl, one_answer_of_draw, one_answer_of_migrate,
-    one_answer_of_migrate_here, one_answer_of_migrate_into, one_answer_of_plan_reasons,
-    one_answer_of_rejoin, one_answer_of_sample, one_answer_of_split, one_answer_of_sql_check,
-    one_answer_of_sql_migrate,
+    one_answer_of_check_rows, one_answer_of_ddl, one_answer_of_draw, one_answer_of_form,
+    one_answer_of_migrate, one_answer_of_migrate_here, one_answer_of_migrate_into,
+    one_answer_of_plan_reasons, one_answer_of_rejoin, one_answer_of_sample, one_answer_of_split,
+    one_answer_of_sql_check, one_answer_of_sql_measure, one_answer_of_sql_migrate,
+    one_answer_of_synthesize_fewest,
 };
 pub use designed::{
     given_names_stay_apart, migrated_tables_are_designed, migrated_tables_have_different_names,
     migrated_tables_obey_the_design, tables_of_a_form_are_designed,
 };
+pub use fewest::{fewest_plans_are_small, fewest_plans_pass};
 pub use passing::{
     functional_plans_are_small, plans_in_form_pass, split_plans_are_narrow, synthesized_plans_keep,
     wide_splits_pass,

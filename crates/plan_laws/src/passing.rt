@@ -10,6 +10,10 @@ ghost use Rattle.schema_model.specs.Schemas.{Schema};
 ghost use Rattle.fd_closure.specs.LeftSides.{IsWideScheme};
 ghost use Rattle.dep_model.specs.declared.form.Form.{Form};
 ghost use Rattle.dep_model.specs.declared.form.Form.TheVariants as forms;
+ghost use Rattle.which_form.specs.declared.forms.TestedForm.TheVariants as tested;
+ghost use Rattle.desk_responses.specs.declared.status.Status.TheVariants.{Yes};
+ghost use Rattle.desk_responses.specs.ResponseValues.{ResponseValue, Says};
+ghost use Rattle.desk_designs.specs.NormalForms.{JudgesForm, in_form_text};
 ghost use Rattle.desk_designs.specs.declared.join.TheConstants.{MOST_TABLEAU_ROWS};
 ghost use Rattle.desk_designs.specs.Decompositions.{IsPlanInForm, IsSplitInForm, IsWideSplit};
 ghost use Rattle.desk_designs.specs.Joins.{IsTooLarge};
@@ -17,12 +21,21 @@ ghost use Rattle.desk_designs.specs.Synthesis.{IsThirdFormPlan};
 ghost use Rattle.plan_laws.specs.Passing.{PassesCheckForm, PassesCheckJoin, PassesCheckKeeps};
 
 /// The plan of a normal form, which `synthesize` and `split` print and other commands take, passes
-/// `check form` of that form, and `check join`.
+/// `check form` of that form, and `check join`; that of third form passes `check form 2nf` too.
 pub fn plans_in_form_pass()
     ensures form { (schema : Schema) (form : Form) (plan : List AttrSet) → IsPlanInForm schema form plan
-        → PassesCheckForm schema form (schemes_of plan) }
+        → PassesCheckForm schema (tested.Higher form) (schemes_of plan) }
     ensures join { (schema : Schema) (form : Form) (plan : List AttrSet) → IsPlanInForm schema form plan
         → PassesCheckJoin schema (schemes_of plan) }
+    ensures second { (schema : Schema) (plan : List AttrSet) → IsThirdFormPlan schema plan
+        → PassesCheckForm schema tested.Second (schemes_of plan) }
+{}
+
+/// A plan that `check form 3nf` says yes of is one that `check form 2nf` says yes of.
+pub fn third_form_is_second()
+    ensures law { (schema : Schema) (plan : List Attributes) (third second : ResponseValue)
+        → JudgesForm schema (tested.Higher forms.Third) plan third → third.status ≡ Yes
+        → JudgesForm schema tested.Second plan second → Says Yes (in_form_text tested.Second) second }
 {}
 
 /// The plan of third normal form passes `check keeps`.
@@ -37,13 +50,13 @@ pub fn split_plans_are_narrow()
     ensures narrow { (schema : Schema) (form : Form) (plan : List AttrSet) → IsSplitInForm schema form plan
         → All (λ scheme. IsWideScheme (theory_of schema) scheme → ⊥) (schemes_of plan) }
     ensures fourth { (schema : Schema) (plan : List AttrSet) → IsSplitInForm schema forms.Fourth plan
-        → PassesCheckForm schema forms.Bcnf (schemes_of plan) }
+        → PassesCheckForm schema (tested.Higher forms.Bcnf) (schemes_of plan) }
 {}
 
 /// The plan of `split wide-bcnf` passes `check form bcnf` and `check join`.
 pub fn wide_splits_pass()
     ensures form { (schema : Schema) (plan : List AttrSet) → IsWideSplit schema plan
-        → PassesCheckForm schema forms.Bcnf (schemes_of plan) }
+        → PassesCheckForm schema (tested.Higher forms.Bcnf) (schemes_of plan) }
     ensures join { (schema : Schema) (plan : List AttrSet) → IsWideSplit schema plan
         → PassesCheckJoin schema (schemes_of plan) }
 {}

@@ -10,6 +10,7 @@ ghost use Rattle.schema_model.specs.Schemas.{Schema};
 ghost use Rattle.ddl_text.specs.declared.table.TableDesign.{TableDesign};
 ghost use Rattle.dep_model.specs.declared.form.Form.{Form};
 ghost use Rattle.dep_model.specs.declared.form.Form.TheVariants as forms;
+ghost use Rattle.which_form.specs.declared.forms.TestedForm.{TestedForm};
 ghost use Rattle.table_names.specs.TableNames.{GivenNames};
 ghost use Rattle.desk_designs.specs.Decompositions.{IsPlanInForm, IsSplitInForm, IsWideSplit};
 ghost use Rattle.desk_designs.specs.Designs.{IsSoundDesign};
@@ -50,7 +51,7 @@ pub fn one_answer_of_synthesize()
 
 /// `check form` has one answer to a schema, a form and a plan.
 pub fn one_answer_of_check_form()
-    ensures law { (schema : Schema) (form : Form) (plan : List Attributes) (one other : ResponseValue)
+    ensures law { (schema : Schema) (form : TestedForm) (plan : List Attributes) (one other : ResponseValue)
         → IsPlan (width_of schema) plan → JudgesForm schema form plan one → JudgesForm schema form plan other
         → one ≡ other }
 {}

@@ -4,3 +4,4 @@ pub mod NumberTexts
 mod SchemaTexts
 mod CoverTexts
 mod ReasonTexts
+mod FewestTexts

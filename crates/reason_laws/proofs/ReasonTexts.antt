@@ -38,7 +38,7 @@ use Rattle.reason_laws.proofs.NameTexts.{IsPrinted, dependency_plain, names_prin
 
 module _ (names : List (List ℕ)) (all : All IsPrinted names) where
   -- a word and a set
-  word_set : (word : List ℕ) (x : Attributes) → IsPlain word → IsPlain (word ++ set_text names x)
+  pub word_set : (word : List ℕ) (x : Attributes) → IsPlain word → IsPlain (word ++ set_text names x)
   word_set word x plain = plain_both word (set_text names x) plain (set_plain names x all)
 
   -- ---- what is left out
@@ -57,12 +57,12 @@ module _ (names : List (List ℕ)) (all : All IsPrinted names) where
       one_line true (front ++ holder)
       (plain_both front holder (plain_both scheme (codes " lies within scheme ") (word_set (codes "# scheme ") (attributes x) refl) refl) (holder_plain x kept)) refl
 
-  left_out_told : (schemes : List AttrSet) → AreLines true (left_out_text names schemes)
+  pub left_out_told : (schemes : List AttrSet) → AreLines true (left_out_text names schemes)
   left_out_told schemes =
       each_lines true (within_text names (without_contained schemes)) (within_told (without_contained schemes)) (contained_after [] schemes)
 
   -- ---- a synthesis
-  member_told : (d : Dependency) → AreLines true (member_text names d)
+  pub member_told : (d : Dependency) → AreLines true (member_text names d)
   member_told d =
       one_line true (codes "# cover: " ++ dependency_text names d) (plain_both (codes "# cover: ") (dependency_text names d) refl (dependency_plain names d all)) refl
 
@@ -74,11 +74,11 @@ module _ (names : List (List ℕ)) (all : All IsPrinted names) where
       one_line true (front ++ scheme)
       (plain_both front scheme (plain_both left (codes ": scheme ") (word_set (codes "# left side ") x refl) refl) (set_plain names (group_scheme cover x) all)) refl
 
-  key_told : (x : Attributes) → AreLines true (key_text names x)
+  pub key_told : (x : Attributes) → AreLines true (key_text names x)
   key_told x =
       one_line true (codes "# no scheme holds a key: scheme " ++ set_text names x) (word_set (codes "# no scheme holds a key: scheme ") x refl) refl
 
-  synthesis_told : (cover : List Dependency) (schemes : List AttrSet)
+  pub synthesis_told : (cover : List Dependency) (schemes : List AttrSet)
       → AreLines true (cover_text names cover ++ groups_text names cover ++ left_out_text names schemes ++ added_text names cover (schemes_of schemes))
   synthesis_told cover schemes =
       let lefts = left_sides_after [] cover in
@@ -142,7 +142,7 @@ module _ (names : List (List ℕ)) (all : All IsPrinted names) where
   keys_own : (keys : List AttrSet) → AreLines false (sets_text names keys)
   keys_own keys = each_lines false (λ (x : AttrSet). line (set_text names (attributes x))) key_own keys
 
-  plan_own : (schemes : List Attributes) → AreLines false (plan_text names schemes)
+  pub plan_own : (schemes : List Attributes) → AreLines false (plan_text names schemes)
   plan_own [] = no_lines false
   plan_own (x ∷ schemes) =
       both_lines false (line (scheme_text names x)) (plan_text names schemes)
@@ -151,10 +151,10 @@ module _ (names : List (List ℕ)) (all : All IsPrinted names) where
 
 -- ---- the explanations
 module _ (s : Schema) (are_names : All IsName (names_of s)) where
-  printed : All IsPrinted (printed_names_of s)
+  pub printed : All IsPrinted (printed_names_of s)
   printed = names_printed s are_names
 
-  text_is : (text : List ℕ) (plain : ResponseValue) → Says Yes text plain → AreLines false text → AreLines false plain.text
+  pub text_is : (text : List ℕ) (plain : ResponseValue) → Says Yes text plain → AreLines false text → AreLines false plain.text
   text_is text plain says own = subst (λ (t : List ℕ). AreLines false t) (sym (ap (λ (r : ResponseValue). r.text) says)) own
 
   keys_reasons : (text : List ℕ) → AreKeyReasons s text → AreLines true text

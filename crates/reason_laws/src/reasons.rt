@@ -9,6 +9,8 @@ ghost use Rattle.dep_model.specs.declared.form.Form.{Form};
 ghost use Rattle.desk_covers.specs.CoverReasons.{ExplainsCover};
 ghost use Rattle.desk_covers.specs.Covering.{GivesCover};
 ghost use Rattle.desk_designs.specs.Decompositions.{Splits};
+ghost use Rattle.desk_designs.specs.FewestReasons.{ExplainsFewest};
+ghost use Rattle.desk_designs.specs.FewestTables.{SynthesizesFewest};
 ghost use Rattle.desk_designs.specs.Synthesis.{Synthesizes};
 ghost use Rattle.desk_keys.specs.KeyReasons.{ExplainsKeys};
 ghost use Rattle.desk_keys.specs.Keys.{ListsKeys};
@@ -25,6 +27,8 @@ pub fn explanations_leave_the_answer()
         → ExplainsKeys schema response → LeavesAnswer (ListsKeys schema) response }
     ensures synthesis { (schema : Schema) (response : ResponseValue) → All IsName (names_of schema)
         → ExplainsSynthesis schema response → LeavesAnswer (Synthesizes schema) response }
+    ensures fewest { (schema : Schema) (response : ResponseValue) → All IsName (names_of schema)
+        → ExplainsFewest schema response → LeavesAnswer (SynthesizesFewest schema) response }
     ensures split { (schema : Schema) (form : Form) (response : ResponseValue)
         → All IsName (names_of schema)
         → ExplainsSplit schema form response → LeavesAnswer (Splits schema form) response }

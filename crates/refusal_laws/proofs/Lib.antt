@@ -4,5 +4,7 @@ mod TableTexts
 mod FileRefusals
 mod QuestionRefusals
 mod PlanRefusals
+mod FormRefusals
 mod RowRefusals
+mod ReferenceRefusals
 mod WordRefusals

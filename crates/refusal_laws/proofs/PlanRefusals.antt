@@ -9,6 +9,7 @@ use Rattle.dep_model.specs.Plans.{schemes_of}
 use Rattle.dep_model.specs.Tuples.{Relation}
 use Rattle.dep_model.specs.declared.form.Form.{Form}
 use Rattle.dep_model.specs.declared.form.Form.TheVariants.{Third, Bcnf, Fourth}
+use Rattle.which_form.specs.declared.forms.TestedForm.{TestedForm}
 use Rattle.dep_model.proofs.ListLemmas.{Contains-head, Contains-later}
 use Rattle.schema_model.specs.Names.{IsName, is_bare_name}
 use Rattle.schema_model.specs.Schemas.{LegalFor, Schema, names_of, naming_of}
@@ -34,7 +35,7 @@ use Rattle.desk_designs.specs.NormalForms.{EndsForm, JudgesForm}
 use Rattle.desk_designs.specs.SplitReasons.{AreSplitReasons, ExplainsCuts, ExplainsSplit}
 use Rattle.desk_designs.specs.Synthesis.{Synthesizes}
 use Rattle.desk_designs.specs.SynthesisReasons.{AreSynthesisReasons, ExplainsSynthesis}
-use Rattle.desk_scripts.specs.Scripts.{AsksTable, MakesDesign, MakesSchemes, MakesTables, MetNameStops, ScriptsCheck, ScriptsMigration, ScriptsMigrationByPlan, TableNameStops, WithOtherName, WithTableName}
+use Rattle.desk_scripts.specs.Scripts.{AsksTable, MakesDesign, MakesSchemes, MakesTables, MeasuresTable, MetNameStops, ScriptsCheck, ScriptsMeasure, ScriptsMigration, ScriptsMigrationByPlan, TableNameStops, WithOtherName, WithTableName}
 use Rattle.desk_tables.specs.Legality.{JudgesRows, OffenceStops, WithLegal, legal_text}
 use Rattle.desk_tables.specs.Migrations.{GivesTables, MigratesPlan, MigratesRows, Samples}
 use Rattle.desk_tables.specs.Overwriting.{IsTableFile, KeepsFiles, MigratesHere, MigratesPlanHere, OverStops, written_over_text}
@@ -101,11 +102,11 @@ module _ (names : List (List ℕ)) (s : Schema) (are_names : All IsName (names_o
   pub join_refuses : (plan : List Attributes) → RefusesSo names (JudgesJoin s plan)
   join_refuses plan = after_loss plan (Says Yes lossless_text) (says_yes names lossless_text)
 
-  form_ends : (form : Form) (scheme : Attributes) → RefusesSo names (EndsForm s form scheme)
+  form_ends : (form : TestedForm) (scheme : Attributes) → RefusesSo names (EndsForm s form scheme)
   form_ends form scheme response (inl (wide, said)) refused = too_wide names s are_names scheme response said refused
   form_ends form scheme response (inr (narrow, (x, y, chosen, said))) refused = says_no names _ response said refused
 
-  pub form_refuses : (form : Form) (plan : List Attributes) → RefusesSo names (JudgesForm s form plan)
+  pub form_refuses : (form : TestedForm) (plan : List Attributes) → RefusesSo names (JudgesForm s form plan)
   form_refuses form plan response (inl (passes, said)) refused = says_yes names _ response said refused
   form_refuses form plan response (inr (scheme, first, ends)) refused = form_ends form scheme response ends refused
 
@@ -200,6 +201,12 @@ module _ (names : List (List ℕ)) (s : Schema) (are_names : All IsName (names_o
 
   pub check_scripted : (table : List ℕ) → RefusesSo names (ScriptsCheck s table)
   check_scripted table = after_name table (AsksTable s table) (table_asked table)
+
+  table_measured : (table : List ℕ) → RefusesSo names (MeasuresTable s table)
+  table_measured table response (counts, said) refused = says_yes names _ response said refused
+
+  pub measure_scripted : (table : List ℕ) → RefusesSo names (ScriptsMeasure s table)
+  measure_scripted table = after_name table (MeasuresTable s table) (table_measured table)
 
   design_made : (table : List ℕ) (tables : List TableDesign) → RefusesSo names (MakesDesign s table tables)
   design_made table tables response (sound, said) refused = says_yes names _ response said refused

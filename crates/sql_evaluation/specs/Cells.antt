@@ -1,5 +1,5 @@
 -- What stands in a column of a row, and what an engine makes of it: for values and queries.
-use Rattle.std.specs.Prelude.{ℕ, ℤ, pos, negsuc, ◌+ℤ◌, ◌-ℤ◌, ◌*ℤ◌, suc, Bool, true, false, not, Option, Some, None, List, [], ◌∷◌, ◌++◌, option_map, option_and_then}
+use Rattle.std.specs.Prelude.{ℕ, ℤ, pos, negsuc, ◌+ℤ◌, ◌-ℤ◌, ◌*ℤ◌, suc, Bool, true, false, not, if◌then◌else◌, Option, Some, None, List, [], ◌∷◌, ◌++◌, option_map, option_and_then}
 use Rattle.std.specs.Fmt.{decimal}
 use Rattle.std.specs.Cmp.Lexicographic.{pointwise}
 use Rattle.std.specs.Ordering.{int_eq}
@@ -56,6 +56,20 @@ added a b = None
 abbrev pub total : List Cell → Option Cell
 total [] = Some missing
 total (c ∷ cs) = option_and_then (added c) (total cs)
+
+-- the greater of two values; which of two texts is greater is the engine's own, so of a text it is an
+-- error
+abbrev pub greater : Cell → Cell → Option Cell
+greater (number m) (number n) = Some (number (if lt_z m n then n else m))
+greater (number m) missing = Some (number m)
+greater missing (number n) = Some (number n)
+greater missing missing = Some missing
+greater a b = None
+
+-- the greatest of values, of which those that are missing do not count
+abbrev pub greatest_of : List Cell → Option Cell
+greatest_of [] = Some missing
+greatest_of (c ∷ cs) = option_and_then (greater c) (greatest_of cs)
 
 abbrev pub multiplied : Cell → Cell → Option Cell
 multiplied (number m) (number n) = Some (number (m *ℤ n))

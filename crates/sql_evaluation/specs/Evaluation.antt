@@ -3,7 +3,7 @@ use Rattle.std.specs.Prelude.{ℕ, ℤ, Bool, false, not, ◌&&◌, ◌==◌, if
 use Rattle.std.specs.List.{list_any}
 use Rattle.std.specs.Set.{unique_keys}
 use Rattle.std.specs.Str.{bytes_eq}
-use Rattle.sql_syntax.specs.Syntax.{Column, Scalar, column, Condition, Item, own, named, unnamed, Clause, each_row, rows_where, groups_by, Link, by_columns, crosswise, Query, stored, select, union_all, except, joined, all_columns, one_row}
+use Rattle.sql_syntax.specs.Syntax.{Column, Scalar, column, Condition, Item, own, named, unnamed, Clause, each_row, rows_where, group_where, groups_by, Link, by_columns, crosswise, Query, stored, select, union_all, except, joined, all_columns, one_row}
 use Rattle.sql_evaluation.specs.Cells.{Cell, same_row}
 use Rattle.sql_evaluation.specs.Values.{each, bytes_of, named_cell, Look, look_at, View, value, holds}
 use Rattle.sql_evaluation.specs.Joins.{is_name_of, rows_joined}
@@ -50,9 +50,13 @@ group_view columns looks key = record {
   rows = Some (filter (in_group columns key) looks);
 }
 
+-- rows as one group
+abbrev pub one_group : List Look → View
+one_group looks = record { own = key_cell [] []; rows = Some looks }
+
 -- the groups by columns; by no column all rows are one
 abbrev pub group_views : List Column → List Look → Option (List View)
-group_views [] looks = Some (record { own = key_cell [] []; rows = Some looks } ∷ [])
+group_views [] looks = Some (one_group looks ∷ [])
 group_views (c ∷ cs) looks =
     option_map (λ keys. map (group_view (c ∷ cs) looks) (unique_keys same_row keys))
     (each (λ look. each look (c ∷ cs)) looks)
@@ -64,6 +68,8 @@ having_true cast (Some p) views = taken (λ v. holds cast v p) views
 abbrev pub views_of : (List ℕ → Option ℤ) → Clause → List Look → Option (List View)
 views_of cast each_row looks = Some (map row_view looks)
 views_of cast (rows_where p) looks = taken (λ v. holds cast v p) (map row_view looks)
+views_of cast (group_where p) looks =
+    option_map (λ rows. one_group rows ∷ []) (taken (λ look. holds cast (row_view look) p) looks)
 views_of cast (groups_by columns having) looks =
     option_and_then (having_true cast having) (group_views columns looks)
 

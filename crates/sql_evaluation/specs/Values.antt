@@ -1,8 +1,8 @@
 -- The values and tests of a row or a group: for queries.
 use Rattle.std.specs.Prelude.{ℕ, ℤ, pos, Bool, ◌||◌, if◌then◌else◌, Option, Some, None, List, [], ◌∷◌, length, option_map, option_and_then}
 use Rattle.std.specs.Str.{bytes_eq}
-use Rattle.sql_syntax.specs.Syntax.{ColumnName, attribute, helper, Column, Scalar, column, as_text, as_integer, with_empty_text, number_zero, number_one, written_number, missing_value, count, sum, sum_product, less_sum, Condition, is_missing, differs, equals, exceeds, either}
-use Rattle.sql_evaluation.specs.Cells.{Cell, missing, number, text_of, followed_by, integer_of, total, multiplied, subtracted, differ, equal, exceed, is_none}
+use Rattle.sql_syntax.specs.Syntax.{ColumnName, attribute, helper, Column, Scalar, column, as_text, as_integer, with_empty_text, number_zero, number_one, written_number, missing_value, count, sum, greatest, sum_product, less_sum, Condition, is_missing, differs, equals, exceeds, either}
+use Rattle.sql_evaluation.specs.Cells.{Cell, missing, number, text_of, followed_by, integer_of, total, greatest_of, multiplied, subtracted, differ, equal, exceed, is_none}
 
 -- ---- errors
 -- a function of each member; an error where it is one at some
@@ -42,6 +42,9 @@ pub record View : Type 0 where
 abbrev pub sum_of : View → Column → Option Cell
 sum_of v c = option_and_then total (option_and_then (each (λ look. look c)) v.rows)
 
+abbrev pub maximum_of : View → Column → Option Cell
+maximum_of v c = option_and_then greatest_of (option_and_then (each (λ look. look c)) v.rows)
+
 abbrev pub value : (List ℕ → Option ℤ) → View → Scalar → Option Cell
 value cast v (column c) = v.own c
 value cast v (as_text x) = option_map text_of (value cast v x)
@@ -53,6 +56,7 @@ value cast v (written_number n) = Some (number (pos n))
 value cast v missing_value = Some missing
 value cast v count = option_map (λ rows. number (pos (length rows))) v.rows
 value cast v (sum c) = sum_of v c
+value cast v (greatest c) = maximum_of v c
 value cast v (sum_product c d) = of_both multiplied (sum_of v c) (sum_of v d)
 value cast v (less_sum x c) = of_both subtracted (value cast v x) (sum_of v c)
 

@@ -2,6 +2,7 @@ pub mod CreatedLemmas
 pub mod ItemLemmas
 pub mod JoiningLemmas
 pub mod ListingLemmas
+pub mod MeasuringLemmas
 pub mod MigrationLemmas
 pub mod NamingLemmas
 pub mod OrderLemmas

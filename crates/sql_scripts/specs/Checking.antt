@@ -43,11 +43,14 @@ abbrev pub breaches_text : Option Query → List ℕ
 breaches_text None = codes " holds always\n"
 breaches_text (Some q) = codes "\n" ++ check_line q
 
--- a rule: its line in the schema's file, the dependency, and the query
+-- a rule: its line in the schema's file, the dependency, and what is said of it
+abbrev pub rule_line : Schema → ℕ → Dependency → List ℕ → List ℕ
+rule_line s line d rest =
+    codes "-- line " ++ decimal line ++ codes ": " ++ dependency_text (printed_names_of s) d ++ rest
+
+-- a rule and the query for what breaks it
 unfoldable pub rule_text : Schema → List ℕ → ℕ → Dependency → List ℕ
-rule_text s table line d =
-    codes "-- line " ++ decimal line ++ codes ": " ++ dependency_text (printed_names_of s) d
-    ++ breaches_text (check_query s table line d)
+rule_text s table line d = rule_line s line d (breaches_text (check_query s table line d))
 
 -- each rule, in the order of the file
 abbrev pub rules_text : Schema → List ℕ → List ℕ

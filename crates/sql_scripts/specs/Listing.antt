@@ -12,7 +12,7 @@ use Rattle.sql_check.specs.Columns.{name_at, type_at, compared, named_column, co
 use Rattle.sql_migrate.specs.Moving.{copied_column}
 use Rattle.sql_check.specs.Checks.{first_count, second_count, count_of_both}
 use Rattle.sql_scripts.specs.declared.listing.Listed.{Listed}
-use Rattle.sql_scripts.specs.declared.listing.Listed.TheVariants.{Compared, Copied, Read, Distinct, GroupMade, Group, GroupShown}
+use Rattle.sql_scripts.specs.declared.listing.Listed.TheVariants.{Compared, Copied, Read, Distinct, GroupMade, Group, GroupShown, ClassGroup}
 use Rattle.sql_scripts.specs.declared.unpaired.Counted.{Counted}
 use Rattle.sql_scripts.specs.declared.unpaired.Counted.TheVariants.{First, Second, Both}
 
@@ -26,6 +26,7 @@ item_with GroupMade number name plain =
     named (column (named_column (codes "d") name)) (numbered_name number)
 item_with Group number name plain = own (numbered_group number)
 item_with GroupShown number name plain = named (column (numbered_group number)) (attribute name)
+item_with ClassGroup number name plain = own (record { alias = codes "c"; name = numbered_name number })
 
 abbrev pub item_of : Schema → Listed → ℕ → ℕ → Item
 item_of s listed number k = item_with listed number (name_at s k) (is_plain_type (type_at s k))

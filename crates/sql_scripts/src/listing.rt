@@ -34,6 +34,8 @@ pub enum Listed {
     Group,
     /// By the name by which is counted, under its own name again.
     GroupShown,
+    /// By the name by which is counted, of the classes that are grouped.
+    ClassGroup,
 }
 
 // The attributes of a set, ascending, with a comma and a blank between.
@@ -105,6 +107,7 @@ fn item_with(
         Listed::GroupMade => group_made(alloc, name, number),
         Listed::Group => group_text(alloc, number),
         Listed::GroupShown => group_shown(alloc, number, name),
+        Listed::ClassGroup => numbered(alloc, b"c.c", number),
     }
 }
 

@@ -3,7 +3,7 @@ ghost use Rattle.attr_sets.specs.Sets.{attributes};
 ghost use Rattle.dep_model.specs.Deps.{dependency_of};
 ghost use Rattle.dep_model.specs.Dependencies.{fd, mvd};
 ghost use Rattle.sql_check.specs.Checks.{check_query};
-ghost use Rattle.sql_scripts.specs.Checking.{breaches_text, rule_text};
+ghost use Rattle.sql_scripts.specs.Checking.{breaches_text, rule_line, rule_text};
 
 use crate::selecting::line_of_query;
 use crate::several::several_text;
@@ -15,7 +15,7 @@ use schema_model::Schema;
 use schema_printer::add_dep;
 use std::alloc::Global;
 
-// A rule: its line in the schema's file, the dependency, and the query for what breaks it.
+// A rule and the query for what breaks it.
 #[tactic(auto, unfolding(crate::specs::Checking::rule_text))]
 pub fn rule_text(
     alloc: Global,
@@ -27,12 +27,27 @@ pub fn rule_text(
     ensures text { IfOk result (λ text.
         text.items ≡ rule_text schema.now table.now line (dependency_of dep)) }
 {
+    let query = breaches_text(alloc, schema, table, line, dep)?;
+    rule_line(alloc, schema, line, dep, &query)
+}
+
+// A rule: its line in the schema's file, the dependency, and what is said of it.
+pub fn rule_line(
+    alloc: Global,
+    schema: &Schema,
+    line: u32,
+    dep: Dep,
+    rest: &[u8],
+) -> Result<Vec<u8>, OutOfMemory>
+    ensures text { IfOk result
+        (λ text. text.items ≡ rule_line schema.now line (dependency_of dep) rest.now) }
+{
     let mut text = Vec::new(alloc);
     add(&mut text, b"-- line ")?;
     add_number(&mut text, alloc, line)?;
     add(&mut text, b": ")?;
     add_dep(&mut text, schema, dep)?;
-    add(&mut text, &breaches_text(alloc, schema, table, line, dep)?)?;
+    add(&mut text, rest)?;
     Ok(text)
 }
 
@@ -96,7 +111,8 @@ fn breaches_of_mvd(
     line_of_query(alloc, b"\n", &query)
 }
 
-fn holds_always(alloc: Global) -> Result<Vec<u8>, OutOfMemory>
+// What is said of a dependency that every relation obeys.
+pub fn holds_always(alloc: Global) -> Result<Vec<u8>, OutOfMemory>
     ensures text { IfOk result (λ text. text.items ≡ codes " holds always\n") }
 {
     let mut text = Vec::new(alloc);

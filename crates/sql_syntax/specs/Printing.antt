@@ -3,7 +3,7 @@ use Rattle.std.specs.Prelude.{ℕ, Bool, true, false, if◌then◌else◌, Optio
 use Rattle.std.specs.Fmt.{decimal}
 use Rattle.std.specs.List.{flat_map}
 use Rattle.sql_syntax.specs.Names.{comma_list, quoted_name}
-use Rattle.sql_syntax.specs.Syntax.{ColumnName, attribute, helper, Column, Scalar, column, as_text, as_integer, with_empty_text, number_zero, number_one, written_number, missing_value, count, sum, sum_product, less_sum, Condition, is_missing, differs, equals, exceeds, either, Item, own, named, unnamed, Clause, each_row, rows_where, groups_by, Link, by_columns, crosswise, Query, stored, select, union_all, except, joined, all_columns, one_row}
+use Rattle.sql_syntax.specs.Syntax.{ColumnName, attribute, helper, Column, Scalar, column, as_text, as_integer, with_empty_text, number_zero, number_one, written_number, missing_value, count, sum, greatest, sum_product, less_sum, Condition, is_missing, differs, equals, exceeds, either, Item, own, named, unnamed, Clause, each_row, rows_where, group_where, groups_by, Link, by_columns, crosswise, Query, stored, select, union_all, except, joined, all_columns, one_row}
 
 -- a user's name stands in quotes
 abbrev pub name_text : ColumnName → List ℕ
@@ -24,6 +24,7 @@ scalar_text (written_number n) = decimal n
 scalar_text missing_value = codes "NULL"
 scalar_text count = codes "COUNT(*)"
 scalar_text (sum c) = codes "SUM(" ++ column_text c ++ codes ")"
+scalar_text (greatest c) = codes "MAX(" ++ column_text c ++ codes ")"
 scalar_text (sum_product c d) =
     codes "SUM(" ++ column_text c ++ codes ") * SUM(" ++ column_text d ++ codes ")"
 scalar_text (less_sum x c) = scalar_text x ++ codes " - SUM(" ++ column_text c ++ codes ")"
@@ -52,6 +53,7 @@ having_text (Some p) = codes " HAVING " ++ condition_text p
 abbrev pub clause_text : Clause → List ℕ
 clause_text each_row = []
 clause_text (rows_where p) = codes " WHERE " ++ condition_text p
+clause_text (group_where p) = codes " WHERE " ++ condition_text p
 clause_text (groups_by columns having) = group_text columns ++ having_text having
 
 -- ---- joins

@@ -23,9 +23,11 @@ pub data Scalar : Type 0 where
   -- a number that is written out, and the missing value
   written_number : ℕ → Scalar
   missing_value : Scalar
-  -- of a group: how many rows it has, the sum of a column, the product of two sums
+  -- of a group: how many rows it has, the sum of a column, its greatest value, the product of two
+  -- sums
   count : Scalar
   sum : Column → Scalar
+  greatest : Column → Scalar
   sum_product : Column → Column → Scalar
   -- a value less the sum of a column
   less_sum : Scalar → Column → Scalar
@@ -44,11 +46,13 @@ pub data Item : Type 0 where
   named : Scalar → ColumnName → Item
   unnamed : Scalar → Item
 
--- what stands after a source: nothing; which rows are taken; or by which columns they are grouped, and
--- which groups are taken. Grouped by no column, all rows are one group, also where there is no row
+-- what stands after a source: nothing; which rows are taken; which rows are taken, and all of them are
+-- one group; or by which columns they are grouped, and which groups are taken. Grouped by no column, all
+-- rows are one group, also where there is no row
 pub data Clause : Type 0 where
   each_row : Clause
   rows_where : Condition → Clause
+  group_where : Condition → Clause
   groups_by : List Column → Option Condition → Clause
 
 -- a stored table that is joined to what stands before it: by columns of these names, which both have, or

@@ -4,7 +4,7 @@ use Rattle.attr_sets.specs.Attributes.{Attributes}
 use Rattle.schema_model.specs.Schemas.{universe_of}
 use Rattle.desk_designs.specs.NormalForms.{JudgesForm}
 use Rattle.desk_responses.specs.Responses.{RespondsAs}
-use Rattle.desk_reports.specs.Forms.{form_title}
+use Rattle.desk_reports.specs.Forms.{tested_title}
 use Rattle.desk_reports.proofs.PieceLemmas.{opens}
 use Rattle.desk_reports.proofs.forms.judged_form.Goals as goal
 
@@ -13,8 +13,8 @@ returns c =
     let s = c.args.schema.now in
     let form = c.args.form in
     record {
-      opens = opens (JudgesForm s form (universe_of s ∷ [])) (form_title form) c.title_of_form.result.now c.check_form.result
-          c.in_ok-text.text.items c.title_of_form.ensures.title
+      opens = opens (JudgesForm s form (universe_of s ∷ [])) (tested_title form) c.title_of_tested.result.now c.check_form.result
+          c.in_ok-text.text.items c.title_of_tested.ensures.title
           (subst (λ (plan : List Attributes). RespondsAs (JudgesForm s form plan) c.check_form.result) c.in_ok-plan.ensures.scheme
           c.check_form.ensures.response)
           c.in_ok-text.ensures.text;

@@ -7,7 +7,7 @@ use Rattle.attr_sets.specs.Attributes.{Attributes, below}
 use Rattle.attr_sets.specs.Sets.{attributes}
 use Rattle.schema_model.specs.Schemas.{theory_of, universe_of, width_of}
 use Rattle.fd_closure.specs.LeftSides.{IsWideScheme}
-use Rattle.normal_forms.specs.Chosen.{IsChosenViolation}
+use Rattle.which_form.specs.Tested.{IsNamedViolation}
 use Rattle.normal_forms.specs.declared.forms.Breach.{Breach}
 use Rattle.desk_reports.specs.Forms.{ShowsTwice, ShowsViolation, ShowsWhy}
 use Rattle.desk_reports.specs.Pieces.{Then}
@@ -21,8 +21,8 @@ returns-in-Ok-Some c =
     let x = attributes c.in-Ok-Some.breach.lhs in
     let y = attributes c.in-Ok-Some.breach.rhs in
     let whole : attributes c.full.result ≡ universe_of s = c.full.ensures.members ∙ ap below c.width.ensures.count in
-    let chosen = subst (λ (found : Option Breach). IfSome found (λ breach. IsChosenViolation (width_of s) (theory_of s) form (attributes c.full.result) (attributes breach.lhs) (attributes breach.rhs)))
-    c.in-Ok-Some.field-0-is (rw (c.theory.ensures.theory) at c.in-Ok-Some.ensures.chosen) in
+    let chosen = subst (λ (found : Option Breach). IfSome found (λ breach. IsNamedViolation (width_of s) (theory_of s) form (attributes c.full.result) (attributes breach.lhs) (attributes breach.rhs)))
+    c.in-Ok-Some.field-0-is (rw (c.theory.ensures.theory) at c.in-Ok-Some.ensures.named) in
     record {
       shown = IfOk-weaker c.shown_breach.result (λ text. Then (ShowsWhy file s form x y) (ShowsTwice s x) text.items)
           (λ text. ShowsViolation file s form text.items)
@@ -31,7 +31,7 @@ returns-in-Ok-Some c =
             (
               x,
               y,
-              subst (λ (u : Attributes). IsChosenViolation (width_of s) (theory_of s) form u x y) whole chosen,
+              subst (λ (u : Attributes). IsNamedViolation (width_of s) (theory_of s) form u x y) whole chosen,
               shown,
             ),
           ))

@@ -2,7 +2,7 @@
 use Rattle.std.proofs.Common.{◌≡◌, ℕ, List, ap, subst, ◌∙◌, codes}
 use Rattle.html_pages.specs.Pages.{title_with_words}
 use Rattle.attr_sets.specs.Sets.{attributes}
-use Rattle.desk_designs.specs.NormalForms.{violation_of}
+use Rattle.desk_designs.specs.NormalForms.{tested_violation_of}
 use Rattle.desk_implication.specs.Implication.{DecidesGoal}
 use Rattle.desk_responses.specs.Responses.{RespondsAs}
 use Rattle.desk_reports.specs.Forms.{goal_text, goal_words}
@@ -12,9 +12,9 @@ use Rattle.desk_reports.proofs.forms.shown_why.Goals as goal
 pub returns : goal.returns
 returns c =
     let s = c.args.schema.now in
-    let d = violation_of c.args.form (attributes c.args.breach.lhs) (attributes c.args.breach.rhs) in
+    let d = tested_violation_of c.args.form (attributes c.args.breach.lhs) (attributes c.args.breach.rhs) in
     let titled = λ (goal : List ℕ). title_with_words (codes "Why") (goal_words c.args.file.now goal) in
-    let stated : c.in_ok-goal.goal ≡ goal_text s d = c.in_ok-goal.ensures.goal ∙ ap (goal_text s) c.violation_dependency.ensures.dep in
+    let stated : c.in_ok-goal.goal ≡ goal_text s d = c.in_ok-goal.ensures.goal ∙ ap (goal_text s) c.tested_dependency.ensures.dep in
     record {
       shown = folds (DecidesGoal s (goal_text s d)) (titled (goal_text s d)) c.deref.result.now c.implies.result
           c.in_ok-text.text.items (c.deref.ensures.value ∙ c.in_ok-title.ensures.title ∙ ap titled stated)

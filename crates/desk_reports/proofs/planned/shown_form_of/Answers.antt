@@ -2,6 +2,7 @@
 use Rattle.std.proofs.Common.{ℕ, List, ap, ◌∙◌}
 use Rattle.plans.specs.Plans.{plan_of}
 use Rattle.html_pages.specs.Pages.{title_with_words}
+use Rattle.which_form.specs.declared.forms.TestedForm.TheVariants.{Higher}
 use Rattle.desk_designs.specs.NormalForms.{JudgesForm}
 use Rattle.desk_reports.specs.Forms.{form_title}
 use Rattle.desk_reports.specs.Tables.{check_words, two_files}
@@ -10,7 +11,7 @@ use Rattle.desk_reports.proofs.planned.shown_form_of.Goals as goal
 
 pub returns : goal.returns
 returns c = record {
-  shown = opens (JudgesForm c.args.schema.now c.args.form (plan_of c.args.plan.now))
+  shown = opens (JudgesForm c.args.schema.now (Higher c.args.form) (plan_of c.args.plan.now))
       (title_with_words (form_title c.args.form) (two_files (check_words c.args.form) c.args.file.now c.args.plan_file.now)) c.deref.result.now c.check_form.result
       c.in_ok-text.text.items (c.deref.ensures.value ∙ c.in_ok-title.ensures.text
       ∙ ap (λ (t : List ℕ). title_with_words t (two_files c.words_for_check.result.now c.args.file.now c.args.plan_file.now)) c.title_of_form.ensures.title

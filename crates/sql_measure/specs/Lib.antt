@@ -1,0 +1,2 @@
+-- The definitions of sql_measure: the query of each dependency.
+pub mod Measures

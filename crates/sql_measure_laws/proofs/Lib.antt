@@ -1,0 +1,13 @@
+pub mod SumLemmas
+pub mod TotalLemmas
+pub mod GroupedLemmas
+pub mod KeyLemmas
+pub mod NumberLemmas
+pub mod FlagLemmas
+pub mod NumberedLemmas
+pub mod ClassLemmas
+pub mod ChosenLemmas
+pub mod ChangeLemmas
+pub mod FourLemmas
+pub mod LackLemmas
+pub mod LawLemmas
