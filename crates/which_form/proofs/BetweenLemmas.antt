@@ -1,6 +1,6 @@
 -- Keys between two sets: none of them, one of them, or those without an attribute and those with it.
-use Rattle.std.proofs.Common.{◌≡◌, ℕ, ◌+◌, ◌<◌, true, false, List, sym, ap, subst, ◌∙◌, inl, inr, arith}
-use Rattle.std.proofs.lemmas.Bool.{true≢false, cases_Bool, cases_eq, lt-ltb, or_cases}
+use Rattle.std.proofs.Common.{◌≡◌, ℕ, ◌<◌, true, false, List, sym, ap, subst, ◌∙◌, inl, inr, arith}
+use Rattle.std.proofs.lemmas.Bool.{true≢false, cases_Bool, cases_eq, or_cases}
 use Rattle.std.proofs.lemmas.Bool.Decides.{nat_tests}
 use Rattle.std.specs.Prelude.{◌↔◌}
 use Rattle.attr_sets.specs.Attributes.{Attributes, below, only, union, difference, IsSubset, Disjoint, IsEmpty, count_below}
@@ -12,9 +12,9 @@ use Rattle.dep_model.specs.Implication.{Implies}
 use Rattle.dep_model.specs.Keys.{IsSuperkey, IsKey, InClosure}
 use Rattle.dep_model.proofs.RuleLemmas.{fd_weaker_obeyed}
 use Rattle.dep_model.proofs.KeyLemmas.{superkey_more, fd_on-to}
-use Rattle.normal_forms.proofs.AddedLemmas.{closure_member, closure_more}
+use Rattle.normal_forms.proofs.AddedLemmas.{closure_member}
 use Rattle.which_form.specs.declared.found.Found.{Found}
-use Rattle.which_form.specs.KeySearches.{DeterminesSome, HasAllOf, HasAllBetween, KeepsAll}
+use Rattle.which_form.specs.KeySearches.{HasAllOf, HasAllBetween, KeepsAll}
 use Rattle.which_form.proofs.RangeLemmas.{irredundant}
 
 module _ (n : ℕ) (ds : List Dependency) (scheme wanted least rest : Attributes) (found : Found) where

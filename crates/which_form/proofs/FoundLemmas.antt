@@ -1,25 +1,25 @@
 -- The first part of a key that determines one of some attributes, and what is found with one more key.
-use Rattle.std.proofs.Common.{◌≡◌, ℕ, ◌↔◌, true, false, List, refl, sym, ap, subst, ◌∙◌, inl, inr, ⊎_elim, arith}
-use Rattle.std.proofs.lemmas.Bool.{true≢false, cases_Bool, cases_eq, cases_lt, false_from_ne_true, ltb-true, or_cases}
+use Rattle.std.proofs.Common.{◌≡◌, ℕ, true, false, List, sym, ap, subst, ◌∙◌, inl, inr, arith}
+use Rattle.std.proofs.lemmas.Bool.{true≢false, cases_eq, cases_lt, false_from_ne_true, or_cases}
 use Rattle.std.proofs.lemmas.Bool.Decides.{nat_tests}
 use Rattle.std.specs.Prelude.{Option, Some, None, IfSome}
 use Rattle.attr_sets.specs.declared.narrowing.Direction.TheVariants.{Descending}
 use Rattle.attr_sets.specs.declared.set.AttrSet.{AttrSet}
-use Rattle.attr_sets.specs.Attributes.{Attributes, below, union, intersection, IsSubset, IsBefore, IsEmpty}
+use Rattle.attr_sets.specs.Attributes.{Attributes, below, union, intersection, IsSubset, IsBefore}
 use Rattle.attr_sets.specs.Narrowing.{left_beside, IsNarrowed}
 use Rattle.attr_sets.specs.Sets.{attributes}
 use Rattle.attr_sets.proofs.AttributesLemmas.{same_at, same_from_within}
 use Rattle.attr_sets.proofs.NarrowingLemmas.{narrowed_passes}
 use Rattle.attr_sets.proofs.UpToLemmas.{subset_up_to}
 use Rattle.dep_model.specs.Dependencies.{Dependency}
-use Rattle.dep_model.specs.Keys.{IsKey, InClosure}
+use Rattle.dep_model.specs.Keys.{IsKey}
 use Rattle.normal_forms.specs.Adding.{AddOnlyThemselves}
 use Rattle.normal_forms.specs.Primes.{ArePrime}
 use Rattle.normal_forms.proofs.AddedLemmas.{closure_more}
 use Rattle.normal_forms.proofs.SearchLemmas.{intersection_before}
 use Rattle.which_form.specs.declared.found.Found.{Found}
 use Rattle.which_form.specs.SecondForm.{IsProperPart}
-use Rattle.which_form.specs.KeySearches.{AreInNoKey, DeterminesSome, HasAllOf, IsFound, IsNotBefore, KeepsAll}
+use Rattle.which_form.specs.KeySearches.{AreInNoKey, DeterminesSome, IsNotBefore, KeepsAll}
 use Rattle.which_form.proofs.RangeLemmas.{superkey_at}
 
 -- ---- the first that passes
@@ -121,7 +121,7 @@ pub not_before_earlier : (first : Option AttrSet) (result : AttrSet)
     → IfSome first (λ other. (x : Attributes) → IsBefore x (attributes result) → IsBefore x (attributes other))
     → (x : Attributes) → IsNotBefore x first → IsNotBefore x (Some result)
 not_before_earlier (Some other) result before x not_before earlier = not_before (before x earlier)
-not_before_earlier None result before x not_before = absurd not_before
+not_before_earlier None result before x not_before earlier = absurd not_before
 
 -- the attributes of a key are prime
 pub prime_with_key : (n : ℕ) (ds : List Dependency) (scheme known key in_keys : Attributes) → ArePrime n ds scheme known → IsKey n ds scheme key

@@ -1,5 +1,5 @@
 -- What is found among the keys of a scheme is the violation of second form that is named, or the scheme is in the form.
-use Rattle.std.proofs.Common.{◌≡◌, ℕ, false, true, List, sym, subst, ◌∙◌, inl, inr}
+use Rattle.std.proofs.Common.{◌≡◌, ℕ, false, true, List, subst, inl, inr}
 use Rattle.std.proofs.lemmas.Bool.{cases_Bool, false_from_ne_true, ltb-true}
 use Rattle.std.specs.Prelude.{Option, Some, None}
 use Rattle.attr_sets.specs.declared.set.AttrSet.{AttrSet}

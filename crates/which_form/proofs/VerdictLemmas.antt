@@ -1,6 +1,6 @@
 -- What is found of a form: the answer of a test, and nothing where a higher form gives it.
-use Rattle.std.proofs.Common.{◌≡◌, ℕ, ◌↔◌, List, Result, refl}
-use Rattle.std.specs.Prelude.{Option, Some, None, IsNone, IfSome, IfOk}
+use Rattle.std.proofs.Common.{ℕ, ◌↔◌, List, Result, refl}
+use Rattle.std.specs.Prelude.{Option, None, IsNone, IfSome, IfOk}
 use Rattle.attr_sets.specs.Attributes.{Attributes}
 use Rattle.attr_sets.specs.Sets.{attributes}
 use Rattle.dep_model.specs.Dependencies.{Dependency}

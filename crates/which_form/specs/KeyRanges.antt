@@ -1,7 +1,6 @@
 -- Between which sets the keys of a scheme lie: for the search among them. `Desk` does not cite it.
 use Rattle.std.specs.Prelude.{List}
 use Rattle.attr_sets.specs.Attributes.{Attributes, union, IsSubset, Disjoint}
-use Rattle.attr_sets.specs.declared.set.AttrSet.{AttrSet}
 use Rattle.attr_sets.specs.Sets.{attributes}
 use Rattle.dep_model.specs.Dependencies.{Dependency, functional_part}
 use Rattle.dep_model.specs.Keys.{IsSuperkey, IsKey}

@@ -73,6 +73,5 @@ fn is_in_every_key(theory: &Theory, scheme: AttrSet, attribute: u8) -> bool
     ensures in_every_key { IsTrue result
         ↔ IsInEveryKey (width_of theory.now) (functional_of theory.now) (attributes scheme) attribute }
 {
-    scheme.contains(attribute)
-        && !is_functional_superkey(theory, scheme, scheme.without(attribute))
+    scheme.contains(attribute) && !is_functional_superkey(theory, scheme, scheme.without(attribute))
 }

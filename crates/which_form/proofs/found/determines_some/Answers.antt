@@ -1,6 +1,4 @@
 -- What is left to prove of `determines_some`: its clause.
-use Rattle.std.proofs.Common.{◌≡◌, true}
-use Rattle.attr_sets.specs.Sets.{attributes}
 use Rattle.which_form.proofs.found.determines_some.Goals as goal
 
 pub returns : goal.returns

@@ -1,5 +1,5 @@
 -- What is left to prove of `with_key`: what it finds, case by case, by `FoundLemmas`.
-use Rattle.std.proofs.Common.{◌≡◌, ℕ, true, List, sym, subst, ◌∙◌, inl, inr, ⊎_elim, arith}
+use Rattle.std.proofs.Common.{◌≡◌, ℕ, true, refl, sym, subst, ◌∙◌, inl, inr, ⊎_elim, arith}
 use Rattle.std.proofs.lemmas.Bool.{true≢false, false≢true}
 use Rattle.std.specs.Prelude.{Option, Some, IfSome}
 use Rattle.attr_sets.specs.declared.narrowing.Direction.TheVariants.{Descending}
@@ -8,14 +8,15 @@ use Rattle.attr_sets.specs.Attributes.{Attributes, below, intersection, IsEmpty,
 use Rattle.attr_sets.specs.Narrowing.{IsNarrowed}
 use Rattle.attr_sets.specs.Sets.{attributes}
 use Rattle.attr_sets.proofs.AttributesLemmas.{same_at, tell_empty}
-use Rattle.dep_model.specs.Dependencies.{Dependency}
 use Rattle.dep_model.specs.Theories.{width_of}
 use Rattle.fd_closure.proofs.SchemaLemmas.{of_functional_part}
+use Rattle.which_form.specs.declared.found.Found.{Found}
 use Rattle.which_form.specs.KeyRanges.{functional_of}
 use Rattle.which_form.specs.KeySearches.{DeterminesSome}
 use Rattle.which_form.specs.SecondForm.{IsProperPart}
 use Rattle.which_form.proofs.FoundLemmas.{keeps_all, no_proper_part, none_before, not_before_earlier, part_determines, part_proper, prime_with_key}
 use Rattle.which_form.proofs.found.with_key.Goals as goal
+use Rattle.which_form.proofs.found.with_key.Goals.{After-first_determining-part}
 
 pub returns-then-is_empty : goal.returns-then-is_empty
 returns-then-is_empty c =
@@ -26,7 +27,7 @@ returns-then-is_empty c =
     let wanted = attributes c.args.wanted in
     let known = c.args.found in
     let is = c.union-in_keys.ensures.members in
-    let later = record { in_keys = c.union-in_keys.result; first = known.first } in
+    let later : Found = record { in_keys = c.union-in_keys.result; first = known.first } in
     let nothing : IsEmpty wanted = c.is_empty.ensures.empty.0 c.if-is_empty.true in
     record {
       found = record {
@@ -41,7 +42,7 @@ returns-then-is_empty c =
     }
 
 -- the part that was found
-narrowed_is : (c : goal.After-first_determining-part) → IsNarrowed Descending (DeterminesSome (width_of c.args.theory.now) (functional_of c.args.theory.now) (attributes c.args.wanted))
+narrowed_is : (c : After-first_determining-part) → IsNarrowed Descending (DeterminesSome (width_of c.args.theory.now) (functional_of c.args.theory.now) (attributes c.args.wanted))
     (intersection (attributes c.args.key) (attributes c.args.range.sides)) (intersection (attributes c.args.key) (attributes c.args.range.sides)) (attributes c.first_determining-part.result)
 narrowed_is c =
     let s = c.args.theory.now in
@@ -66,10 +67,10 @@ returns-then-eq c =
     let key = attributes c.args.key in
     let known = c.args.found in
     let is = c.union-in_keys.ensures.members in
-    let later = record { in_keys = c.union-in_keys.result; first = known.first } in
+    let later : Found = record { in_keys = c.union-in_keys.result; first = known.first } in
     let part = attributes c.first_determining-part.result in
     let narrowed = narrowed_is (goal.at.returns-then-eq c).After-first_determining-part in
-    let same : part ≡ key = c.if-eq.ensures.same.0 c.if-eq.true in
+    let same : part ≡ key = c.if-eq.ensures.same.0 refl in
     record {
       found = record {
         prime = prime_with_key n fs scheme (attributes known.in_keys) key (attributes c.union-in_keys.result) c.requires.found.prime c.requires.key is;
@@ -95,12 +96,12 @@ returns c =
     let known = c.args.found in
     let is = c.union-in_keys.ensures.members in
     let first = c.earlier.result in
-    let later = record { in_keys = c.union-in_keys.result; first = Some first } in
+    let later : Found = record { in_keys = c.union-in_keys.result; first = Some first } in
     let part = attributes c.first_determining-part.result in
     let narrowed = narrowed_is (goal.at.returns c).After-first_determining-part in
-    let one = ⊎_elim (λ found. (found.0, found.2)) (λ nothing. absurd (false≢true (sym c.if-is_empty.false ∙ c.is_empty.ensures.empty.1 nothing)))
+    let one : (a : ℕ) × (wanted a ≡ true) = ⊎_elim (λ found. (found.0, found.2)) (λ nothing. absurd (false≢true (sym c.if-is_empty.false ∙ c.is_empty.ensures.empty.1 nothing)))
     (tell_empty n wanted (λ k m. range.scheme k (c.requires.wanted.within k m))) in
-    let differs : part ≡ key → ⊥ = λ same. false≢true (sym c.if-eq.false ∙ c.if-eq.ensures.same.1 same) in
+    let differs : part ≡ key → ⊥ = λ same. false≢true (c.if-eq.ensures.same.1 same) in
     let proper = part_proper n fs scheme sides wanted key range.scheme range.added c.requires.wanted c.requires.key part narrowed differs in
     let determines = part_determines n fs scheme sides wanted key range.scheme range.added c.requires.wanted c.requires.key part narrowed one.0 one.1 in
     record {

@@ -11,9 +11,10 @@ use Rattle.which_form.specs.declared.forms.TestedForm.TheVariants.{Higher}
 use Rattle.which_form.proofs.FourthLemmas.{bcnf_fourth, chosen_fourth}
 use Rattle.which_form.proofs.VerdictLemmas.{in_form_verdict}
 use Rattle.which_form.proofs.fourth.fourth_beside.Goals as goal
+use Rattle.which_form.proofs.fourth.fourth_beside.Goals.{In-Some}
 
 -- the violation that is known
-chosen : (c : goal.In-Some) → IsChosenViolation (width_of c.args.theory.now) (theory_of c.args.theory.now) Bcnf (attributes c.args.scheme)
+chosen : (c : In-Some) → IsChosenViolation (width_of c.args.theory.now) (theory_of c.args.theory.now) Bcnf (attributes c.args.scheme)
     (attributes c.in-Some.breach.lhs) (attributes c.in-Some.breach.rhs)
 chosen c =
     let s = c.args.theory.now in

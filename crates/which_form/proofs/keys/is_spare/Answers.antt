@@ -1,5 +1,5 @@
 -- What is left to prove of `is_spare`: what it answers, case by case.
-use Rattle.std.proofs.Common.{◌≡◌, ◌↔◌, true, sym, subst, ◌∙◌}
+use Rattle.std.proofs.Common.{◌↔◌, sym, subst, ◌∙◌}
 use Rattle.std.proofs.lemmas.Bool.{true≢false, false≢true}
 use Rattle.std.specs.Prelude.{IsTrue}
 use Rattle.attr_sets.specs.Attributes.{Attributes}

@@ -1,5 +1,5 @@
 -- What is left to prove of `key_range`: its clause `range`, by `RangeLemmas`.
-use Rattle.std.proofs.Common.{arith}
+use Rattle.std.proofs.Common.{refl, arith}
 use Rattle.attr_sets.specs.Sets.{attributes}
 use Rattle.attr_sets.proofs.AttributesLemmas.{same_at}
 use Rattle.dep_model.specs.Theories.{width_of}
@@ -24,6 +24,7 @@ returns c =
     let is = c.difference-varying.ensures.members in
     let exact = functional_closure_of_schema s c.deps.result.now c.deps.ensures.deps least closed (λ k m. low k ((every k).0 m).member) c.functional_closure-closed.ensures.closure in
     record {
+      scheme = refl;
       range = record {
         scheme = low;
         sides = c.sides_in-sides.ensures.within;

@@ -57,7 +57,9 @@ search_keys-before-requires t c =
     let fewer = attributes c.without-fewer.result in
     let a = c.in-Some.attribute in
     let is = c.without-fewer.ensures.members in
-    let less = fewer_left _ _ _ _ _ rest fewer a is c.in-Some.ensures.first.member c.in-Some.ensures.attribute in (
+    let s = c.args.theory.now in
+    let less = fewer_left (width_of s) (functional_of s) (attributes c.args.range.scheme) (attributes c.args.wanted) (attributes c.args.part.of) rest fewer a is
+    c.in-Some.ensures.first.member c.in-Some.ensures.attribute in (
       omega (arith, less),
       (
         c.requires.range,
@@ -117,9 +119,14 @@ search_keys-requires t c =
     let more = c.part_with-more.ensures.of in
     let member = c.in-Some.ensures.first.member in
     let least = attributes c.args.part.of in
-    let less = fewer_left _ _ _ _ _ rest fewer a is member c.in-Some.ensures.attribute in
+    let s = c.args.theory.now in
+    let n = width_of s in
+    let fs = functional_of s in
+    let scheme = attributes c.args.range.scheme in
+    let wanted = attributes c.args.wanted in
+    let less = fewer_left n fs scheme wanted least rest fewer a is member c.in-Some.ensures.attribute in
     let in_scheme = c.requires.rest a member in
-    let apart = fewer_apart _ _ _ _ least rest fewer a is c.requires.apart in (
+    let apart = fewer_apart n fs scheme wanted least rest fewer a is c.requires.apart in (
       omega (arith, less),
       (
         c.requires.range,

@@ -16,7 +16,7 @@ use Rattle.which_form.specs.SecondForm.{IsProperPart, IsFirstInSecond}
 use Rattle.which_form.proofs.NamedLemmas.{named_violation, none_found}
 use Rattle.which_form.proofs.SecondLemmas.{violates_not_second}
 use Rattle.which_form.proofs.second.second_violation.Goals as goal
-use Rattle.which_form.proofs.second.second_violation.Goals.{After-search_all_keys-found}
+use Rattle.which_form.proofs.second.second_violation.Goals.{After-search_all_keys-found, In-Some}
 
 -- all of each key was found
 all_found : (c : After-search_all_keys-found) → (k : Attributes)
@@ -43,7 +43,7 @@ search_all_keys-found-requires c =
     }
 
 -- what was found first
-part_found : (c : goal.In-Some) → IsProperPart (width_of c.args.theory.now) (functional_of c.args.theory.now) (attributes c.key_range-range.result.scheme) (attributes c.in-Some.lhs)
+part_found : (c : In-Some) → IsProperPart (width_of c.args.theory.now) (functional_of c.args.theory.now) (attributes c.key_range-range.result.scheme) (attributes c.in-Some.lhs)
     × DeterminesSome (width_of c.args.theory.now) (functional_of c.args.theory.now) (attributes c.attributes_in_no_key-wanted.result) (attributes c.in-Some.lhs)
 part_found c =
     let s = c.args.theory.now in
@@ -88,10 +88,10 @@ returns-in-None c =
     record {
       none = (
         (λ _ x a part on _. subst (λ (set : AttrSet). IsPrime n fs (attributes set) a) c.key_range-range.ensures.scheme
-        (none_found n fs (attributes c.key_range-range.result.scheme) (attributes wanted.result) range.scheme wanted.ensures.in_no_key wanted.ensures.others
-        c.search_all_keys-found.result c.in-None.is (all_found (goal.at.returns-in-None c).After-search_all_keys-found) x a
-        (subst (λ (set : AttrSet). IsProperPart n fs (attributes set) x) (sym c.key_range-range.ensures.scheme) part)
-        (subst (λ (set : AttrSet). ImpliedOn n fs (attributes set) (fd x (only a))) (sym c.key_range-range.ensures.scheme) on))),
+            (none_found n fs (attributes c.key_range-range.result.scheme) (attributes wanted.result) range.scheme wanted.ensures.in_no_key wanted.ensures.others
+            c.search_all_keys-found.result c.in-None.is (all_found (goal.at.returns-in-None c).After-search_all_keys-found) x a
+            (subst (λ (set : AttrSet). IsProperPart n fs (attributes set) x) (sym c.key_range-range.ensures.scheme) part)
+            (subst (λ (set : AttrSet). ImpliedOn n fs (attributes set) (fd x (only a))) (sym c.key_range-range.ensures.scheme) on))),
         (λ _. refl),
       );
       named = tt;

@@ -1,5 +1,4 @@
 -- What is left to prove of `bcnf_below`: what it answers, case by case.
-use Rattle.std.proofs.Common.{refl}
 use Rattle.attr_sets.specs.Sets.{attributes}
 use Rattle.dep_model.specs.Theories.{width_of, theory_of}
 use Rattle.dep_model.specs.declared.form.Form.TheVariants.{Bcnf}

@@ -8,8 +8,8 @@ fourth_beside-fourth-requires c = record {
   bcnf = record { none = c.in_ok-bcnf.ensures.none; named = c.in_ok-bcnf.ensures.chosen };
 }
 
-pub third_below-third-requires : goal.third_below-third-requires
-third_below-third-requires c = record {
+pub third_below-requires : goal.third_below-requires
+third_below-requires c = record {
   scheme = c.requires.scheme;
   functional = c.requires.functional;
   bcnf = record { none = c.in_ok-bcnf.ensures.none; named = c.in_ok-bcnf.ensures.chosen };

@@ -1,8 +1,8 @@
 -- What is left to prove of `mixed_forms`: its clause `forms`, and what its calls require.
 use Rattle.which_form.proofs.verdicts.mixed_forms.Goals as goal
 
-pub bcnf_below-bcnf-requires : goal.bcnf_below-bcnf-requires
-bcnf_below-bcnf-requires c = record {
+pub bcnf_below-requires : goal.bcnf_below-requires
+bcnf_below-requires c = record {
   scheme = c.requires.scheme;
   fourth = record { none = c.in_ok-fourth.ensures.none; named = c.in_ok-fourth.ensures.chosen };
 }
