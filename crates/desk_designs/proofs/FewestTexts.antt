@@ -45,3 +45,7 @@ left_out_more f kept cover i d lt =
     ∙ ap (λ (l : List Dependency). flat_map f l) (filter-append test before (e ∷ []))
     ∙ flat_map-append f (left_out kept before) (left_out kept (e ∷ []))
     ∙ ap (λ (l : List ℕ). flat_map f (left_out kept before) ++ l) (left_out_one f kept e)
+
+pub joined_none : (names : List (List ℕ)) (sets : List AttrSet) → length sets ≡ 0 → joined_sets names (schemes_of sets) ≡ []
+joined_none names [] none = refl
+joined_none names (x ∷ sets) none = absurd (omega (arith, none))

@@ -1,26 +1,23 @@
 -- Left sides in groups: each is in one, all of one are alike, and there are as many groups as left sides of which no two
 -- are alike. Those with the same closure are the groups.
-use Rattle.std.proofs.Common.{◌≡◌, ℕ, ◌≤◌, ◌<◌, ◌↔◌, Bool, true, false, ◌&&◌, List, [], ◌∷◌, ◌++◌, map, length, refl, sym, subst, ap, ◌∙◌, inl, inr, arith}
-use mathlib.Core.Path.{fun_ext}
+use Rattle.std.proofs.Common.{◌≡◌, ℕ, ◌≤◌, ◌↔◌, Bool, true, List, [], map, sym, subst, ap, ◌∙◌, arith}
 use Rattle.std.specs.Prelude.{All, Contains, filter}
-use Rattle.std.proofs.lemmas.Bool.{and_from, ltb-true, lt-ltb}
+use Rattle.std.proofs.lemmas.Bool.{lt-ltb}
 use Rattle.std.proofs.lemmas.Bool.Decides.{nat_tests}
-use Rattle.std.proofs.lemmas.List.{length-map}
-use Rattle.std.proofs.lemmas.List.Elements.{All-nil, All-contains, All-contains_itself, All-weaker}
+use Rattle.std.proofs.lemmas.List.Elements.{All-nil, All-contains, All-contains_itself}
 use Rattle.attr_sets.specs.declared.set.TheConstants.{MOST_ATTRIBUTES}
 use Rattle.attr_sets.specs.Attributes.{Attributes, below, only, intersection, IsSubset}
 use Rattle.attr_sets.specs.Sets.{attributes, is_same}
 use Rattle.attr_sets.proofs.AttributesLemmas.{is_same-true, is_same-from, same_from_within}
 use Rattle.dep_model.specs.Dependencies.{Dependency, fd, functional_part, IsWithin}
 use Rattle.dep_model.specs.Implication.{Implies}
-use Rattle.dep_model.specs.Keys.{InClosure}
 use Rattle.dep_model.proofs.ListLemmas.{All-members, Contains-map, map-member}
 use Rattle.fd_closure.proofs.ClosureLemmas.{fd_each-from}
 use Rattle.fd_closure.proofs.ClosedSets.{IsClosure, closure_set}
 use Rattle.fd_closure.specs.Closures.{IsKnownClosure}
 use Rattle.fd_closure.specs.declared.known.KnownClosure.{KnownClosure}
 use Rattle.synthesis_3nf.proofs.ThirdLemmas.{fd_trans, fd_within}
-use Rattle.fewest_tables.specs.Alike.{AreAlike, AreGroups, DecidesAlike, firsts_after, groups_of}
+use Rattle.fewest_tables.specs.Alike.{AreAlike, AreGroups, firsts_after}
 use Rattle.fewest_tables.specs.FewestSteps.{group_with, same_closure, set_of, sets_of}
 use Rattle.fewest_tables.proofs.FirstLemmas.{Contains-filter, filter_map_is, filter_member, filter_same, firsts_among, firsts_hold, firsts_map, firsts_same, map_map_is, map_same}
 

@@ -1,18 +1,17 @@
 -- What is alike, as a list of dependencies: each set of a group determines each other one, or all of the group, which says
 -- the same.
-use Rattle.std.proofs.Common.{◌≡◌, ℕ, ◌≤◌, Bool, true, false, not, if◌then◌else◌, List, [], ◌∷◌, ◌++◌, map, refl, sym, subst, ap, ◌∙◌, inl, inr, ⊎_elim, arith}
+use Rattle.std.proofs.Common.{◌≡◌, ℕ, ◌≤◌, Bool, true, false, not, if◌then◌else◌, List, [], ◌∷◌, map, refl, sym, subst, ap, inl, inr, arith}
 use Rattle.std.specs.Prelude.{All, Contains, filter}
-use Rattle.std.specs.List.{list_any, flat_map}
+use Rattle.std.specs.List.{flat_map}
 use Rattle.std.proofs.lemmas.Bool.{cases_Bool, lt-ltb, ltb-true}
-use Rattle.std.proofs.lemmas.Bool.Decides.{nat_tests}
 use Rattle.std.proofs.lemmas.List.Elements.{All-contains}
 use Rattle.attr_sets.specs.declared.set.TheConstants.{MOST_ATTRIBUTES}
-use Rattle.attr_sets.specs.Attributes.{Attributes, below, only, IsSubset}
+use Rattle.attr_sets.specs.Attributes.{Attributes, below, IsSubset}
 use Rattle.attr_sets.specs.Sets.{is_same}
 use Rattle.attr_sets.proofs.AttributesLemmas.{is_same-true}
 use Rattle.dep_model.specs.Tuples.{Relation}
 use Rattle.dep_model.specs.Dependencies.{Dependency, fd, Obeys, ObeysFd, is_fd, IsWithin}
-use Rattle.dep_model.specs.Implication.{IsLegal, Implies}
+use Rattle.dep_model.specs.Implication.{Implies}
 use Rattle.dep_model.proofs.ListLemmas.{All-members, Contains-flat_map, Contains-head, Contains-map, Contains-nil, Contains-cases, flat_map-member, map-member}
 use Rattle.dep_model.proofs.RuleLemmas.{reflexivity_obeyed, fd_weaker_obeyed}
 use Rattle.fd_closure.proofs.ClosureLemmas.{fd_each-to, fd_each-from}

@@ -1,6 +1,6 @@
 -- No design whose keys state the functional dependencies has fewer schemes than there are groups: a left side of each group is
 -- alike with a key of some scheme, and keys of one scheme are alike.
-use Rattle.std.proofs.Common.{◌≡◌, ℕ, ◌≤◌, ◌⊎◌, Bool, true, false, not, List, [], ◌∷◌, ◌++◌, map, length, refl, sym, subst, ap, ◌∙◌, inl, inr, ⊎_elim, arith}
+use Rattle.std.proofs.Common.{◌≡◌, ℕ, ◌≤◌, Bool, true, not, List, [], ◌++◌, length, refl, sym, subst, ap, ◌∙◌, ⊎_elim, arith}
 use Rattle.std.specs.Prelude.{All, Contains, filter}
 use Rattle.std.specs.List.{flat_map}
 use Rattle.std.proofs.lemmas.Bool.{cases_Bool, true≢false, lt-ltb, ltb-true, not-true}
@@ -10,18 +10,17 @@ use Rattle.std.proofs.lemmas.List.Elements.{All-contains, All-filter}
 use Rattle.attr_sets.specs.declared.set.TheConstants.{MOST_ATTRIBUTES}
 use Rattle.attr_sets.specs.Attributes.{Attributes, below, only, intersection, IsSubset}
 use Rattle.attr_sets.proofs.AttributesLemmas.{tell_subset}
-use Rattle.dep_model.specs.Tuples.{Relation}
-use Rattle.dep_model.specs.Dependencies.{Dependency, fd, Obeys, is_fd, functional_part, left_of, right_of, IsWithin, LeadsOut}
-use Rattle.dep_model.specs.Implication.{IsLegal, Implies}
+use Rattle.dep_model.specs.Dependencies.{Dependency, fd, Obeys, is_fd, functional_part, left_of, right_of, IsWithin}
+use Rattle.dep_model.specs.Implication.{Implies}
 use Rattle.dep_model.specs.TwoTuples.{two_tuples}
-use Rattle.dep_model.specs.Keys.{InClosure, IsSuperkey}
+use Rattle.dep_model.specs.Keys.{IsSuperkey}
 use Rattle.dep_model.proofs.KeyLemmas.{fd_on-to}
 use Rattle.dep_model.proofs.ListLemmas.{All-members, flat_map-member, map-member}
 use Rattle.dep_model.proofs.PreservationLemmas.{fd-obeyed}
 use Rattle.dep_model.proofs.TwoTupleLemmas.{two_tuples_fd-to}
 use Rattle.fd_closure.specs.FunctionallyClosed.{IsFunctionallyClosed}
 use Rattle.fd_closure.proofs.ClosureLemmas.{fd_each-to, fd_each-from}
-use Rattle.fd_closure.proofs.ClosedSets.{IsClosure, closed-from, closed-to, closure_set, tell_functionally_closed}
+use Rattle.fd_closure.proofs.ClosedSets.{IsClosure, closed-from, closure_set, tell_functionally_closed}
 use Rattle.min_cover.specs.Covers.{IsMinimalCover, IsSingle}
 use Rattle.synthesis_3nf.specs.Groups.{left_sides_after}
 use Rattle.synthesis_3nf.proofs.GroupSchemes.{AreRules}
@@ -166,17 +165,6 @@ module _ (n : ℕ) (ds : List Dependency) (design : List KeyedScheme) (states : 
             (λ all. rules_implied n ds cover rules (fd key x) (fd_each-from n cover key x (λ (k : ℕ) m. ((reach.exact k).0 (all k m)).1)))
             (tell_subset n x e x_low)
           where
-            all_inside : (e : Attributes) → IsClosure n cover key e → (IsSubset x e → ⊥) → IsSubset table.scheme c
-            all_inside e reach misses k m =
-                let both = intersection e c in
-                let holds : IsSubset key both = λ (j : ℕ) j_in. grind (arith, reach.holds j j_in, inside j j_in) in
-                let low : IsSubset both (below n) = λ (j : ℕ) j_in. lt-ltb j n ((reach.exact j).0 (grind (arith, j_in))).0 in
-                let follows : Implies n cover (fd both (only k)) =
-                fd_trans n cover both key (only k) (fd_within n cover both key holds)
-                (fd_each-to n cover key table.scheme (implied_by_rules n ds cover rules (fd key table.scheme) (key_determines table key listed key_in)) k m) in
-                let member = closed-from n cover both within (rules_same n ds cover rules) low (both_closed e reach misses) k (ltb-true k n (table_low table listed k m), follows) in
-                grind (arith, member)
-
             both_closed : (e : Attributes) → IsClosure n cover key e → (IsSubset x e → ⊥) → IsFunctionallyClosed cover (intersection e c)
             both_closed e reach misses = All-members (λ (d : Dependency). IsSubset (left_of d) (intersection e c) → IsSubset (right_of d) (intersection e c)) cover (λ d has left k m.
                 let low = All-contains (IsWithin (below n)) cover d within has in
@@ -198,6 +186,17 @@ module _ (n : ℕ) (ds : List Dependency) (design : List KeyedScheme) (states : 
                 let right_c : IsSubset (right_of d) c = two_tuples_fd-to n c (left_of d) (right_of d) low.0 low.1 obeyed_c left_c in
                 grind (arith, right_e k m, right_c k m))
                 (cases_Bool (test x (left_of d))))
+
+            all_inside : (e : Attributes) → IsClosure n cover key e → (IsSubset x e → ⊥) → IsSubset table.scheme c
+            all_inside e reach misses k m =
+                let both = intersection e c in
+                let holds : IsSubset key both = λ (j : ℕ) j_in. grind (arith, reach.holds j j_in, inside j j_in) in
+                let low : IsSubset both (below n) = λ (j : ℕ) j_in. lt-ltb j n ((reach.exact j).0 (grind (arith, j_in))).0 in
+                let follows : Implies n cover (fd both (only k)) =
+                fd_trans n cover both key (only k) (fd_within n cover both key holds)
+                (fd_each-to n cover key table.scheme (implied_by_rules n ds cover rules (fd key table.scheme) (key_determines table key listed key_in)) k m) in
+                let member = closed-from n cover both within (rules_same n ds cover rules) low (both_closed e reach misses) k (ltb-true k n (table_low table listed k m), follows) in
+                grind (arith, member)
 
       -- a key of some scheme is alike with the left side
       found_key : (table : KeyedScheme) × Contains design table × ((key : Attributes) × Contains table.keys key × AreAlike n ds x key)

@@ -1,10 +1,10 @@
 -- The first ones of a list by a test, and filters: which elements they have, and that they go along with a map.
-use Rattle.std.proofs.Common.{◌≡◌, ℕ, ◌≤◌, ◌⊎◌, Bool, true, false, ◌||◌, if◌then◌else◌, List, [], ◌∷◌, ◌++◌, map, length, refl, sym, subst, ap, ◌∙◌, inl, inr, arith, append_assoc, length-append}
+use Rattle.std.proofs.Common.{◌≡◌, ◌≤◌, ◌⊎◌, Bool, true, false, ◌||◌, if◌then◌else◌, List, [], ◌∷◌, ◌++◌, map, length, refl, sym, subst, ap, ◌∙◌, inl, inr, arith, append_assoc, length-append}
 use Rattle.std.specs.Prelude.{All, Contains, filter}
 use Rattle.std.specs.List.{list_any}
 use Rattle.std.proofs.lemmas.Bool.{cases_Bool, true≢false}
 use Rattle.std.proofs.lemmas.List.{map-append}
-use Rattle.std.proofs.lemmas.List.Elements.{All-cons, All-head, All-tail, All-push, All-contains, All-contains_itself, All-filter, filter_passes, Contains-append_left, Contains-append_right, Contains-append_cases, Contains-push}
+use Rattle.std.proofs.lemmas.List.Elements.{All-head, All-tail, All-push, All-contains, All-contains_itself, All-filter, filter_passes, Contains-append_left, Contains-append_right, Contains-append_cases, Contains-push}
 use Rattle.dep_model.proofs.ListLemmas.{All-members, Contains-cases, Contains-head, Contains-later, Contains-nil}
 use Rattle.plans.proofs.ListLemmas.{any_from, any_some}
 use Rattle.fewest_tables.specs.Alike.{firsts_after}
@@ -97,9 +97,9 @@ firsts_among {X = X} alike earlier (x ∷ later) f has = elim (cases_Bool (list_
   | inl old ↦
       Contains-later x later f (firsts_among alike earlier later f (subst (λ (l : List X). Contains l f) (first_passed alike earlier x later old) has))
   | inr new ↦ elim (Contains-cases x (firsts_after alike (earlier ++ x ∷ []) later) f (subst (λ (l : List X). Contains l f) (first_added alike earlier x later new) has)) [
-      | inl here ↦ subst (λ (y : X). Contains (x ∷ later) y) (sym here) (Contains-head x later)
-      | inr there ↦ Contains-later x later f (firsts_among alike (earlier ++ x ∷ []) later f there)
-    ]
+    | inl here ↦ subst (λ (y : X). Contains (x ∷ later) y) (sym here) (Contains-head x later)
+    | inr there ↦ Contains-later x later f (firsts_among alike (earlier ++ x ∷ []) later f there)
+  ]
 ]
 
 -- none of those before is alike with one of them
@@ -108,9 +108,9 @@ firsts_new alike earlier [] e f early has = absurd (Contains-nil f has)
 firsts_new {X = X} alike earlier (x ∷ later) e f early has = elim (cases_Bool (list_any (λ y. alike y x) earlier)) [
   | inl old ↦ firsts_new alike earlier later e f early (subst (λ (l : List X). Contains l f) (first_passed alike earlier x later old) has)
   | inr new ↦ elim (Contains-cases x (firsts_after alike (earlier ++ x ∷ []) later) f (subst (λ (l : List X). Contains l f) (first_added alike earlier x later new) has)) [
-      | inl here ↦ subst (λ (y : X). alike e y ≡ false) (sym here) (any_none (λ y. alike y x) earlier e new early)
-      | inr there ↦ firsts_new alike (earlier ++ x ∷ []) later e f (Contains-append_left earlier (x ∷ []) e early) there
-    ]
+    | inl here ↦ subst (λ (y : X). alike e y ≡ false) (sym here) (any_none (λ y. alike y x) earlier e new early)
+    | inr there ↦ firsts_new alike (earlier ++ x ∷ []) later e f (Contains-append_left earlier (x ∷ []) e early) there
+  ]
 ]
 
 -- no two of a list are alike
@@ -205,9 +205,9 @@ beside_cases : {X : Type 0} (before after : List X) (x y : X) → Contains (befo
 beside_cases before after x y has = elim (Contains-append_cases before (x ∷ after) y has) [
   | inl near ↦ inl (Contains-append_left before after y near)
   | inr far ↦ elim (Contains-cases x after y far) [
-      | inl same ↦ inr same
-      | inr later ↦ inl (Contains-append_right before after y later)
-    ]
+    | inl same ↦ inr same
+    | inr later ↦ inl (Contains-append_right before after y later)
+  ]
 ]
 
 -- where each of a list, no two of which are alike, has one of another, and those that have the same are alike

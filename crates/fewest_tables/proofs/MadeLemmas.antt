@@ -3,7 +3,7 @@ use Rattle.std.proofs.Common.{◌≡◌, ℕ, ◌≤◌, ◌⊎◌, Bool, true, 
 use Rattle.std.specs.Prelude.{All, Contains}
 use Rattle.std.specs.List.{list_any, flat_map}
 use Rattle.std.proofs.lemmas.Bool.{cases_Bool, ltb-false}
-use Rattle.std.proofs.lemmas.List.Elements.{All-contains, All-contains_itself, All-filter, All-weaker, filter_passes}
+use Rattle.std.proofs.lemmas.List.Elements.{All-contains, All-filter, filter_passes}
 use Rattle.attr_sets.specs.Attributes.{Attributes, below, IsSubset}
 use Rattle.attr_sets.specs.Sets.{attributes}
 use Rattle.attr_sets.specs.declared.set.AttrSet.{AttrSet}
@@ -174,9 +174,9 @@ shared_deps_within s groups rules low are =
     let each = subst (λ (l : List Dependency). All (IsWithin (below n)) l) (sym are) (shared_within n s.valid.within_limit groups low) in
     All-members (IsDepWithin (below n)) rules (λ d has. All-contains (IsWithin (below n)) (dependencies_of rules) (dependency_of d) each (Contains-map dependency_of rules d has))
 
-pub kept_by_shared : (s : Theory) (groups : List (List Attributes)) (rules cover kept : List Dependency) → AreLow (width_of s) groups → rules ≡ flat_map shared_exchanges groups
-    → IsThinned (width_of s) rules cover (rules ++ kept) → IsThinned (width_of s) (all_exchanges groups) cover (all_exchanges groups ++ kept)
-kept_by_shared s groups rules cover kept low are thinned =
+pub kept_by_shared : (s : Theory) (groups : List (List Attributes)) (shared cover kept : List Dependency) → AreLow (width_of s) groups → shared ≡ flat_map shared_exchanges groups
+    → IsThinned (width_of s) shared cover (shared ++ kept) → IsThinned (width_of s) (all_exchanges groups) cover (all_exchanges groups ++ kept)
+kept_by_shared s groups shared cover kept low are thinned =
     let n = width_of s in
     thinned_beside n (flat_map shared_exchanges groups) (all_exchanges groups) cover kept (shared_same n s.valid.within_limit groups low)
     (subst (λ (l : List Dependency). IsThinned n l cover (l ++ kept)) are thinned)

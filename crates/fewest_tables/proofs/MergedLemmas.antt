@@ -3,9 +3,9 @@
 use Rattle.std.proofs.Common.{◌≡◌, ℕ, ◌≤◌, ◌⊎◌, Bool, true, false, ◌&&◌, List, [], ◌∷◌, ◌++◌, map, refl, sym, subst, ap, ◌∙◌, inl, inr, ⊎_elim, arith, append_assoc}
 use Rattle.std.specs.Prelude.{All, Contains}
 use Rattle.std.specs.List.{list_any}
-use Rattle.std.proofs.lemmas.Bool.{cases_Bool, true≢false, eqb-true, eq-eqb, lt-ltb, ltb-true, or_left, or_cases}
+use Rattle.std.proofs.lemmas.Bool.{cases_Bool, true≢false, eqb-true, eq-eqb, ltb-true, or_left, or_cases}
 use Rattle.std.proofs.lemmas.Bool.Decides.{nat_tests}
-use Rattle.std.proofs.lemmas.List.Elements.{All-append, All-contains, All-contains_itself, All-weaker, Contains-append_left, Contains-append_right, Contains-append_cases}
+use Rattle.std.proofs.lemmas.List.Elements.{All-append, All-contains, All-contains_itself, Contains-append_left, Contains-append_right, Contains-append_cases}
 use Rattle.attr_sets.specs.declared.set.TheConstants.{MOST_ATTRIBUTES}
 use Rattle.attr_sets.specs.Attributes.{Attributes, below, only, difference, union, IsSubset, IsEmpty}
 use Rattle.attr_sets.specs.Sets.{is_same}
@@ -13,22 +13,22 @@ use Rattle.attr_sets.proofs.AttributesLemmas.{same_from_within}
 use Rattle.dep_model.specs.Dependencies.{Dependency, fd, Obeys, is_fd, functional_part, left_of, right_of, IsWithin, LeadsOut}
 use Rattle.dep_model.specs.Tuples.{Relation}
 use Rattle.dep_model.specs.Implication.{IsLegal, Implies}
-use Rattle.dep_model.specs.Keys.{InClosure, IsSuperkey, IsKey}
+use Rattle.dep_model.specs.Keys.{IsSuperkey, IsKey}
 use Rattle.dep_model.specs.Forms.{IsThird}
 use Rattle.dep_model.proofs.KeyLemmas.{fd_on-to}
-use Rattle.dep_model.proofs.ListLemmas.{All-members, Contains-map, Contains-head, map-member}
+use Rattle.dep_model.proofs.ListLemmas.{All-members, Contains-map, map-member}
 use Rattle.fd_closure.proofs.ClosureLemmas.{fd_each-to, fd_each-from}
 use Rattle.fd_closure.proofs.ClosedSets.{closed-from, tell_functionally_closed}
 use Rattle.min_cover.specs.Covers.{HaveSameLegal, IsMinimalCover, IsSingle, IsThinned}
 use Rattle.min_cover.proofs.CoverLemmas.{thinned_legal-to, thinned_legal-from}
-use Rattle.min_cover.proofs.ListLemmas.{All-left, All-right}
+use Rattle.min_cover.proofs.ListLemmas.{All-right}
 use Rattle.plans.proofs.ListLemmas.{any_from, any_some}
 use Rattle.synthesis_3nf.specs.Groups.{group_scheme, left_sides_after}
 use Rattle.synthesis_3nf.proofs.CompleteLemmas.{AreThirdSchemes}
 use Rattle.synthesis_3nf.proofs.GroupSchemes.{AreRules}
 use Rattle.synthesis_3nf.proofs.GroupLemmas.{left_among, left_found, member_lies, scheme_attribute}
 use Rattle.synthesis_3nf.proofs.ThirdLemmas.{Contains-insert_cases, contains_split, cover_rules, fd_trans, fd_within, implied_by_rules, left_is_key, member_holds, member_implied, rules_same, superkey_by_others}
-use Rattle.fewest_tables.specs.Alike.{AreAlike, all_exchanges}
+use Rattle.fewest_tables.specs.Alike.{all_exchanges}
 use Rattle.fewest_tables.specs.MergedPlans.{merged_scheme}
 use Rattle.fewest_tables.proofs.AlikeLemmas.{IsGrouped}
 use Rattle.fewest_tables.proofs.ExchangeLemmas.{AreLow, exchange_implied, exchange_is, exchanges_functional, exchanges_within}

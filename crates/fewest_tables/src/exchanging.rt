@@ -55,11 +55,7 @@ fn add_exchanges(rules: &mut Vec<Dep>, group: &[AttrSet]) -> Result<(), OutOfMem
 }
 
 // Adds that a left side determines its group.
-fn add_exchange(
-    rules: &mut Vec<Dep>,
-    left: AttrSet,
-    together: AttrSet,
-) -> Result<(), OutOfMemory>
+fn add_exchange(rules: &mut Vec<Dep>, left: AttrSet, together: AttrSet) -> Result<(), OutOfMemory>
     ensures added { OnOk result (dependencies_of rules.new.items
         ≡ dependencies_of rules.old.items ++ shared_exchange (attributes together) (attributes left)) }
 {

@@ -53,11 +53,7 @@ pub fn smaller_plan(first: Plan, second: Plan) -> Plan
 }
 
 /// The plan that the steps lead to: the schemes of the groups without contained ones.
-pub fn merged_plan(
-    alloc: Global,
-    theory: &Theory,
-    steps: &FewestSteps,
-) -> Result<Plan, OutOfMemory>
+pub fn merged_plan(alloc: Global, theory: &Theory, steps: &FewestSteps) -> Result<Plan, OutOfMemory>
     requires steps { (nullable : Attributes) × AreFewestSteps (width_of theory.now) (theory_of theory.now)
         nullable steps.now }
     ensures universe { IfOk result (IsPlanOver theory.now) }

@@ -25,7 +25,8 @@ pub fn merged_schemes(
 {
     let mut schemes = Vec::new(alloc);
     for first in firsts {
-        schemes.push(scheme_with(alloc, deps, lefts, *first)?)?;
+        let scheme = scheme_with(alloc, deps, lefts, *first)?;
+        schemes.push(scheme)?;
     }
     Ok(schemes)
 }

@@ -1,5 +1,5 @@
 -- What is left to prove of `add_exchanges`: its clause, and that the invariant of its loop holds at first and stays.
-use Rattle.std.proofs.Common.{◌≡◌, ◌<◌, ◌++◌, List, length, get_or, take, take_all, sym, ap, ◌∙◌, append-nil, append_assoc}
+use Rattle.std.proofs.Common.{◌<◌, ◌++◌, List, length, get_or, take, take_all, sym, ap, ◌∙◌, append-nil, append_assoc}
 use Rattle.std.specs.List.{flat_map}
 use Rattle.attr_sets.specs.Attributes.{Attributes}
 use Rattle.attr_sets.specs.Sets.{attributes}

@@ -1,7 +1,6 @@
 -- What is left to prove of `shared_exchanges`: its clause, and that the invariant of its loop holds at first and stays.
-use Rattle.std.proofs.Common.{◌≡◌, ◌<◌, ◌++◌, List, map, length, get_or, take, take_all, refl, sym, ap, ◌∙◌}
+use Rattle.std.proofs.Common.{◌<◌, ◌++◌, List, map, length, get_or, take_all, refl, sym, ap, ◌∙◌}
 use Rattle.std.specs.List.{flat_map}
-use Rattle.attr_sets.specs.Attributes.{Attributes}
 use Rattle.dep_model.specs.Dependencies.{Dependency}
 use Rattle.fd_closure.specs.declared.known.KnownClosure.{KnownClosure}
 use Rattle.fewest_tables.specs.FewestSteps.{group_with, shared_exchanges}

@@ -1,5 +1,4 @@
 -- What is left to prove of `fewest_plan`: its clauses, and what the calls that it makes require.
-use Rattle.std.proofs.Common.{◌≡◌, ap, sym, subst, ◌∙◌}
 use Rattle.std.specs.Prelude.{All}
 use Rattle.attr_sets.specs.Sets.{attributes}
 use Rattle.dep_model.specs.Forms.{IsThird}

@@ -1,12 +1,8 @@
 -- What is left to prove of `group_left_sides`: its clause, by `grouped_by_closures`.
-use Rattle.std.proofs.Common.{◌≡◌, List, [], map, sym, subst, ap, ◌∙◌}
-use Rattle.attr_sets.specs.Attributes.{Attributes}
-use Rattle.attr_sets.specs.declared.set.AttrSet.{AttrSet}
-use Rattle.dep_model.specs.Plans.{schemes_of}
-use Rattle.dep_model.specs.Theories.{Theory, width_of, theory_of}
+use Rattle.std.proofs.Common.{◌≡◌, List, [], ap, ◌∙◌}
 use Rattle.fd_closure.specs.declared.known.KnownClosure.{KnownClosure}
-use Rattle.fewest_tables.specs.Alike.{AreGroups, firsts_after}
-use Rattle.fewest_tables.specs.FewestSteps.{group_with, same_closure}
+use Rattle.fewest_tables.specs.Alike.{firsts_after}
+use Rattle.fewest_tables.specs.FewestSteps.{same_closure}
 use Rattle.fewest_tables.proofs.MadeLemmas.{groups_made}
 use Rattle.fewest_tables.proofs.grouping.group_left_sides.Goals as goal
 

@@ -1,5 +1,5 @@
 -- What is left to prove of `group_with`: its clause, and that the invariant of its loop holds at first and stays.
-use Rattle.std.proofs.Common.{◌≡◌, ◌<◌, List, length, refl, ap, ◌∙◌, take_all}
+use Rattle.std.proofs.Common.{◌<◌, List, length, refl, ap, ◌∙◌, take_all}
 use Rattle.dep_model.specs.Plans.{schemes_of}
 use Rattle.fd_closure.specs.declared.known.KnownClosure.{KnownClosure}
 use Rattle.fewest_tables.specs.FewestSteps.{group_with}

@@ -1,6 +1,5 @@
 -- What is left to prove of `with_closures`: its clauses, and that the invariant of its loop holds at first and stays.
-use Rattle.std.proofs.Common.{◌≡◌, ◌<◌, ◌∷◌, ◌++◌, [], List, length, refl, sym, subst, ap, ◌∙◌, take, take_all}
-use Rattle.std.specs.Prelude.{All}
+use Rattle.std.proofs.Common.{◌<◌, ◌∷◌, ◌++◌, [], List, length, refl, sym, ap, ◌∙◌, take, take_all}
 use Rattle.std.proofs.lemmas.List.{map_more, map_push}
 use Rattle.std.proofs.lemmas.List.Elements.{All-nil, All-push}
 use Rattle.attr_sets.specs.Attributes.{Attributes}
@@ -10,8 +9,7 @@ use Rattle.dep_model.specs.Dependencies.{functional_part}
 use Rattle.dep_model.specs.Plans.{schemes_of}
 use Rattle.dep_model.specs.Theories.{width_of, theory_of}
 use Rattle.fd_closure.specs.Closures.{IsKnownClosure}
-use Rattle.fd_closure.specs.declared.known.KnownClosure.{KnownClosure}
-use Rattle.fewest_tables.specs.FewestSteps.{set_of, sets_of}
+use Rattle.fewest_tables.specs.FewestSteps.{set_of}
 use Rattle.fewest_tables.proofs.grouping.with_closures.Goals as goal
 
 pub loop-left-init : goal.loop-left-init

@@ -8,6 +8,6 @@ use Rattle.fewest_tables.proofs.merging.is_among.Goals as goal
 
 pub returns : goal.returns
 returns c = record {
-  among = c.is_one_of.ensures
+  among = c.is_one_of.ensures.same
       ∙ sym (any_map_is dependency_of (λ (e : Dependency). has_same_sides e (dependency_of c.args.dep)) c.args.deps.now);
 }

@@ -1,5 +1,5 @@
 -- What is left to prove of `merged_scheme`: its clause, and that the invariant of its loop holds at first and stays.
-use Rattle.std.proofs.Common.{◌≡◌, ◌<◌, List, length, get_or, take_all, ap, ◌∙◌}
+use Rattle.std.proofs.Common.{◌<◌, List, length, take_all, ap, ◌∙◌}
 use Rattle.attr_sets.specs.Attributes.{Attributes, union}
 use Rattle.attr_sets.specs.Sets.{attributes}
 use Rattle.attr_sets.specs.declared.set.AttrSet.{AttrSet}

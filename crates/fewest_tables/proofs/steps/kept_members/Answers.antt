@@ -1,12 +1,7 @@
 -- What is left to prove of `kept_members`: its clause, and what `kept_beside` requires, by `ExchangeLemmas`.
-use Rattle.std.proofs.Common.{◌≡◌, List, map, sym, subst, ap, ◌∙◌}
-use Rattle.std.specs.Prelude.{All}
+use Rattle.std.proofs.Common.{◌≡◌, List, map, ap, ◌∙◌}
 use Rattle.std.specs.List.{flat_map}
-use Rattle.attr_sets.specs.Attributes.{Attributes, below}
-use Rattle.dep_model.specs.declared.dep.Dep.{Dep}
-use Rattle.dep_model.specs.Dependencies.{Dependency}
-use Rattle.dep_model.specs.Deps.{dependencies_of, IsDepWithin}
-use Rattle.dep_model.specs.Theories.{width_of}
+use Rattle.dep_model.specs.Deps.{dependencies_of}
 use Rattle.fd_closure.specs.declared.known.KnownClosure.{KnownClosure}
 use Rattle.fewest_tables.specs.FewestSteps.{group_with, groups_in, shared_exchanges}
 use Rattle.fewest_tables.proofs.MadeLemmas.{kept_by_shared, shared_deps_within}

@@ -1,13 +1,12 @@
 -- What is left to prove of `steps_from`: its clauses, and what the calls that it makes require, by `MadeLemmas`.
 use Rattle.std.proofs.Common.{◌≡◌, ◌++◌, List, [], map, sym, subst, ap, ◌∙◌}
-use Rattle.std.specs.Prelude.{All}
-use Rattle.attr_sets.specs.Attributes.{Attributes, below, IsSubset}
+use Rattle.attr_sets.specs.Attributes.{Attributes, below}
 use Rattle.attr_sets.specs.Sets.{attributes}
 use Rattle.attr_sets.specs.declared.set.AttrSet.{AttrSet}
 use Rattle.dep_model.proofs.DepLemmas.{dependencies_all-from}
 use Rattle.dep_model.specs.declared.dep.Dep.{Dep}
 use Rattle.dep_model.specs.Dependencies.{IsWithin}
-use Rattle.dep_model.specs.Deps.{dependencies_of, IsDepWithin}
+use Rattle.dep_model.specs.Deps.{dependencies_of}
 use Rattle.dep_model.specs.Plans.{schemes_of}
 use Rattle.dep_model.specs.Theories.{width_of, theory_of}
 use Rattle.fd_closure.specs.declared.known.KnownClosure.{KnownClosure}
@@ -40,14 +39,17 @@ merged_are c =
     ∙ ap (λ (l : List KnownClosure). map (merged_scheme (dependencies_of c.in_ok-kept.kept.items)) (map (group_with l) c.deref-5.result.now)) c.deref-4.ensures.value
     ∙ ap (λ (l : List KnownClosure). map (merged_scheme (dependencies_of c.in_ok-kept.kept.items)) (map (group_with c.in_ok-groups.groups.lefts.items) l)) c.deref-5.ensures.value
 
-merged_steps : (c : In_ok-schemes) → AreMergedSteps (width_of c.args.theory.now) (theory_of c.args.theory.now) (attributes c.args.nullable) (dependencies_of c.args.plain.cover.items)
+merged_steps : (c : In_ok-schemes) → AreGroups (width_of c.args.theory.now) (theory_of c.args.theory.now) (left_sides_after [] (dependencies_of c.args.plain.cover.items)) (groups_in c.in_ok-groups.groups)
+    → IsThinned (width_of c.args.theory.now) (all_exchanges (groups_in c.in_ok-groups.groups)) (dependencies_of c.args.plain.cover.items) (all_exchanges (groups_in c.in_ok-groups.groups) ++ dependencies_of c.in_ok-kept.kept.items)
+    → schemes_of c.in_ok-merged.merged.items ≡ map (merged_scheme (dependencies_of c.in_ok-kept.kept.items)) (groups_in c.in_ok-groups.groups)
+    → AreMergedSteps (width_of c.args.theory.now) (theory_of c.args.theory.now) (attributes c.args.nullable) (dependencies_of c.args.plain.cover.items)
     (groups_in c.in_ok-groups.groups) (dependencies_of c.in_ok-kept.kept.items) (schemes_of c.in_ok-schemes.schemes.items)
-merged_steps c = record {
+merged_steps c are_grouped are_thinned are_merged = record {
   fixed = c.requires.plain.fixed;
-  grouped = grouped c.In_ok-groups;
-  thinned = thinned c.In_ok-kept;
+  grouped = are_grouped;
+  thinned = are_thinned;
   completed = subst (λ (xs : List Attributes). IsWithKey (width_of c.args.theory.now) (theory_of c.args.theory.now) (attributes c.args.nullable) xs (schemes_of c.in_ok-schemes.schemes.items))
-      (merged_are c.In_ok-merged) c.in_ok-schemes.ensures.completed;
+      are_merged c.in_ok-schemes.ensures.completed;
 }
 
 pub group_left_sides-requires : goal.group_left_sides-requires
@@ -84,10 +86,13 @@ returns-clause-steps c = record {
   lefts = c.requires.lefts;
   minimal = c.requires.minimal;
   within = c.requires.within;
-  merged = merged_steps (goal.at.returns-clause-steps c).In_ok-schemes;
+  merged =
+      let at = goal.at.returns-clause-steps c in
+      merged_steps at.In_ok-schemes (grouped at.In_ok-groups) (thinned at.In_ok-kept) (merged_are at.In_ok-merged);
 }
 
 pub returns-clause-fewest : goal.returns-clause-fewest
 returns-clause-fewest c =
+    let at = goal.at.returns-clause-fewest c in
     steps_fewest c.args.theory.now (attributes c.args.nullable) (dependencies_of c.args.plain.cover.items) (groups_in c.in_ok-groups.groups) (dependencies_of c.in_ok-kept.kept.items)
-    (schemes_of c.in_ok-schemes.schemes.items) (merged_steps (goal.at.returns-clause-fewest c).In_ok-schemes)
+    (schemes_of c.in_ok-schemes.schemes.items) (merged_steps at.In_ok-schemes (grouped at.In_ok-groups) (thinned at.In_ok-kept) (merged_are at.In_ok-merged))
