@@ -1,6 +1,6 @@
 -- The numbers that the query of a functional dependency gives are those of the measure.
 use Rattle.std.proofs.Common.{◌≡◌, ◌≢◌, ◌<◌, ◌≤◌, ◌+◌, ◌==◌, ◌&&◌, not, ℕ, Bool, true, false, List, [], ◌∷◌, length, map, filter, refl, sym, ap, subst, ◌∙◌, inl, inr, arith}
-use Rattle.std.proofs.lemmas.Bool.{cases_Bool, true≢false, and_parts, eqb-true, eq-eqb, ltb-true}
+use Rattle.std.proofs.lemmas.Bool.{cases_Bool, true≢false, and_parts, eqb-true, eq-eqb, lt-ltb, ltb-true}
 use Rattle.std.proofs.lemmas.Bool.Decides.{nat_tests}
 use Rattle.std.specs.Prelude.{ℤ, pos, ◌-ℤ◌, ◌+ℤ◌, nat_lt, Contains, if◌then◌else◌}
 use lib.IntN.{pos-+ℤ-pos, +ℤ-neg_ℤ_cancel}
@@ -116,7 +116,7 @@ module _ (s : Schema) (cell : Cells) (r : Relation) (x y : Attributes) (c : Clas
       (Contains-map (cells_on s cell w) r (row_at r i) (member_of r i i_low)) (Contains-map (cells_on s cell w) r (row_at r j) (member_of r j j_low))
       (passes i i_low i_group) (passes j j_low j_group)
       (λ same. differ (same-number s cell r w c.classes c.class_firsts apart_w c.by_both c.class_rows i j i_low j_low same)) in
-      grind (arith, nat_tests, more)
+      lt-ltb 1 (length (class_of s cell w x r (group_key h))) more
 
   broken-flag : (h : ℕ) → h < groups → is_broken s cell x w r (group_key h) ≡ flag h
   broken-flag h h_in =

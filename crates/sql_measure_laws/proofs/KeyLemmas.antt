@@ -52,13 +52,13 @@ not_empty-map f [] = refl
 not_empty-map f (x ∷ xs) = refl
 
 -- columns of the attributes of x have these keys, where the rows have these values there
-pub keys-are : (s : Schema) (cell : Cells) (x : Attributes) (r : Relation) (column : ℕ → Column) (given : List (List Cell))
+pub keys-are : (s : Schema) (cell : Cells) (x : Attributes) (r : Relation) (named_by : ℕ → Column) (given : List (List Cell))
     → (has_members s x ≡ true → unique_keys same_row given ≡ values_of s cell x r)
-    → keys_by (map column (members_below (width_of s) x)) given ≡ keys_of s cell x r
-keys-are s cell x r column given same =
+    → keys_by (map named_by (members_below (width_of s) x)) given ≡ keys_of s cell x r
+keys-are s cell x r named_by given same =
     let by = λ (b : Bool). if b then unique_keys same_row given else [] ∷ [] in
     let values = λ (b : Bool). if b then values_of s cell x r else [] ∷ [] in
-    ap by (not_empty-map column (members_below (width_of s) x)) ∙ elim (cases_Bool (has_members s x)) [
+    ap by (not_empty-map named_by (members_below (width_of s) x)) ∙ elim (cases_Bool (has_members s x)) [
       | inl some ↦ ap by some ∙ same some ∙ ap values (sym some)
       | inr none ↦ ap by none ∙ ap values (sym none)
     ]
@@ -70,7 +70,7 @@ KeyOn s x key = (shown : ℕ → Cell) × (map shown (members_below (width_of s)
 value-on : (s : Schema) (cell : Cells) (x : Attributes) (r : Relation) (key : List Cell) → Contains (values_of s cell x r) key → KeyOn s x key
 value-on s cell x r key h =
     let v = value-row s cell x r key h in
-    (λ (k : ℕ). compared_cell cell k (value_at v.0 k), v.1)
+    (λ (k : ℕ). compared_cell cell k (value_at v.0 k), v.2)
 
 only-key : (key : List Cell) → Contains ([] ∷ []) key → key ≡ []
 only-key key h = elim (Contains-cases [] [] key h) [

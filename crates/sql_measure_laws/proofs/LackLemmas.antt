@@ -402,6 +402,7 @@ module _ (s : Schema) (cell : Cells) (r : Relation) (x y : Attributes)
         ∙ sym (total-by-groups lacking owner group_count left_count owner_in)
 
     lack-numbers : lack_rows (tuples_with s cell x r) (surplus s cell r x right rest) keys ≡ rows_of_measure (measure_by_parts parts)
+    unfolding parts flags
     lack-numbers =
         let d = missing_pairs groups lefts left_firsts rests rest_firsts in
         let f = sum_over (tuples_with s cell x r) keys in
