@@ -1,14 +1,13 @@
 -- What a query that groups its source gives, whatever the source is.
-use Rattle.std.proofs.Common.{◌≡◌, ◌+◌, ◌==◌, ℕ, Bool, true, false, List, [], ◌∷◌, ◌++◌, length, map, filter, Some, None, Option, refl, sym, ap, subst, ◌∙◌, inl, inr, arith}
+use Rattle.std.proofs.Common.{◌≡◌, ◌+◌, ◌==◌, ℕ, Bool, true, false, List, [], ◌∷◌, length, map, filter, Some, None, Option, refl, sym, ap, ◌∙◌, inl, inr, arith}
 use Rattle.std.proofs.lemmas.Bool.{cases_Bool, lt-ltb}
-use Rattle.std.proofs.lemmas.List.{length-map, map-id}
+use Rattle.std.proofs.lemmas.List.{length-map}
 use Rattle.std.proofs.lemmas.Bool.Decides.{nat_tests}
 use Rattle.std.specs.Prelude.{◌↔◌, ℤ, pos, ◌-ℤ◌, nat_lt, Contains, if◌then◌else◌, option_map, option_and_then, codes, unwrap_or}
 use Rattle.std.specs.Set.{unique_keys}
 use Rattle.std.specs.Str.{bytes_eq}
 use lib.IntN.{pos-+ℤ-pos, +ℤ-neg_ℤ_cancel}
 use Rattle.dep_model.proofs.ListLemmas.{Contains-head, Contains-later}
-use Rattle.dep_model.proofs.DistinctLemmas.{filter-member}
 use Rattle.sql_syntax.specs.Names.{is_not_empty}
 use Rattle.sql_syntax.specs.Syntax.{attribute, Column, column, Scalar, number_zero, count, sum, Condition, exceeds, Item, own, named, Query, select, rows_where, group_where, groups_by}
 use Rattle.sql_measure.specs.Measures.{shown_column, totals_query}
@@ -19,7 +18,6 @@ use Rattle.sql_check_laws.proofs.CellLemmas.{same_row-decides}
 use Rattle.sql_check_laws.proofs.EachLemmas.{each-known, each-map, map-map, map-known, filter-known, filter-map, taken-known}
 use Rattle.sql_check_laws.proofs.GroupLemmas.{group_views-some, taken-map}
 use Rattle.sql_check_laws.proofs.SeveralLemmas.{shows_none}
-use Rattle.row_measures.specs.declared.breach.Measure.{Measure}
 use Rattle.sql_measure_laws.specs.Measured.{rows_of_measure}
 use Rattle.sql_measure_laws.proofs.SumLemmas.{sum_over, max_over, larger}
 
@@ -262,6 +260,6 @@ no-rows [] b c = (λ e. refl, λ e. refl)
 no-rows (x ∷ xs) b c =
     let row : List Cell = number (pos (length (x ∷ xs))) ∷ b ∷ c ∷ [] in
     let some : nat_lt 0 (length (x ∷ xs)) ≡ true = lt-ltb 0 (length (x ∷ xs)) (omega arith) in (
-  λ e. absurd (shows_none (row ∷ []) row (sym (ap (λ (t : Bool). if t then row ∷ [] else []) some) ∙ e) (Contains-head row [])),
-  λ e. absurd (shows_none (x ∷ xs) x e (Contains-head x xs)),
-)
+      λ e. absurd (shows_none (row ∷ []) row (sym (ap (λ (t : Bool). if t then row ∷ [] else []) some) ∙ e) (Contains-head row [])),
+      λ e. absurd (shows_none (x ∷ xs) x e (Contains-head x xs)),
+    )
