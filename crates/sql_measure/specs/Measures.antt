@@ -1,6 +1,6 @@
 -- The queries of `sql measure` over a table, as values of SQL's syntax: for the laws of what they
 -- give, and for the script (`sql_scripts`).
-use Rattle.std.specs.Prelude.{ℕ, if◌then◌else◌, Option, Some, None, List, [], ◌∷◌, ◌++◌, map, codes, option_and_then}
+use Rattle.std.specs.Prelude.{ℕ, false, if◌then◌else◌, Option, Some, None, List, [], ◌∷◌, ◌++◌, map, codes, option_and_then}
 use Rattle.attr_sets.specs.Attributes.{Attributes, union}
 use Rattle.schema_model.specs.Schemas.{Schema}
 use Rattle.dep_model.specs.Projections.{members_below}

@@ -1,13 +1,11 @@
 -- The numbers that the query of a functional dependency gives are those of the measure.
-use Rattle.std.proofs.Common.{◌≡◌, ◌≢◌, ◌<◌, ◌≤◌, ◌+◌, ◌==◌, ◌&&◌, not, ℕ, Bool, true, false, List, [], ◌∷◌, length, map, filter, refl, sym, ap, subst, ◌∙◌, inl, inr, arith}
-use Rattle.std.proofs.lemmas.Bool.{cases_Bool, true≢false, and_parts, eqb-true, eq-eqb, ltb-true}
-use Rattle.std.proofs.lemmas.Bool.Decides.{nat_tests}
-use Rattle.std.specs.Prelude.{ℤ, pos, ◌-ℤ◌, ◌+ℤ◌, nat_lt, Contains, if◌then◌else◌}
-use lib.IntN.{pos-+ℤ-pos, +ℤ-neg_ℤ_cancel}
+use Rattle.std.proofs.Common.{◌≡◌, ◌<◌, ◌+◌, ◌==◌, ◌&&◌, not, ℕ, Bool, true, false, List, length, map, refl, sym, ap, subst, ◌∙◌, inl, inr, arith}
+use Rattle.std.proofs.lemmas.Bool.{cases_Bool, true≢false, and_parts, eqb-true, eq-eqb, lt-ltb, ltb-true}
+use Rattle.std.specs.Prelude.{ℤ, pos, ◌-ℤ◌, Contains}
 use Rattle.attr_sets.specs.Attributes.{Attributes, union, difference, intersection, count_below, IsSubset}
 use Rattle.attr_sets.proofs.AttributesLemmas.{count_below-equal, count_below-none, count_below-difference, same_truth}
 use Rattle.schema_model.specs.Schemas.{Schema}
-use Rattle.dep_model.specs.Tuples.{Tuple, Relation, AgreeOn}
+use Rattle.dep_model.specs.Tuples.{Tuple, Relation}
 use Rattle.dep_model.proofs.DistinctLemmas.{filter-member, filter-keeps}
 use Rattle.dep_model.proofs.ListLemmas.{Contains-map, map-member}
 use Rattle.legality.specs.Parts.{flag_at}
@@ -20,14 +18,12 @@ use Rattle.row_groups.specs.Numberings.{number_at}
 use Rattle.row_measures.specs.Answers.{measure_by_classes}
 use Rattle.row_measures.specs.Broken.{HasTwoClasses, flagged_groups, flagged_rows, rows_outside}
 use Rattle.row_measures.specs.Sorted.{Classes}
-use Rattle.row_measures.specs.declared.breach.Measure.{Measure}
 use Rattle.row_store.specs.Rows.{row_at}
 use Rattle.sql_evaluation.specs.Cells.{Cell, number, same_row}
 use Rattle.sql_check_laws.proofs.CellLemmas.{same_row-decides}
-use Rattle.sql_check_laws.proofs.CountLemmas.{two_of, of_two, in_unique}
+use Rattle.sql_check_laws.proofs.CountLemmas.{two_of, of_two}
 use Rattle.sql_check_laws.proofs.EachLemmas.{filter-known}
 use Rattle.sql_check_laws.proofs.GroupLemmas.{Cells, pick, pick-cells, value-row, row-value, class_of}
-use Rattle.sql_check_laws.proofs.SeveralLemmas.{agree-cells}
 use Rattle.sql_check_laws.proofs.ValuesLemmas.{cells_on, values_of}
 use Rattle.sql_measure_laws.specs.Measured.{rows_of_measure}
 use Rattle.sql_measure_laws.proofs.SumLemmas.{when, sum_over, times-total, max-is, total-sum}
@@ -116,7 +112,7 @@ module _ (s : Schema) (cell : Cells) (r : Relation) (x y : Attributes) (c : Clas
       (Contains-map (cells_on s cell w) r (row_at r i) (member_of r i i_low)) (Contains-map (cells_on s cell w) r (row_at r j) (member_of r j j_low))
       (passes i i_low i_group) (passes j j_low j_group)
       (λ same. differ (same-number s cell r w c.classes c.class_firsts apart_w c.by_both c.class_rows i j i_low j_low same)) in
-      grind (arith, nat_tests, more)
+      lt-ltb 1 (length (class_of s cell w x r (group_key h))) more
 
   broken-flag : (h : ℕ) → h < groups → is_broken s cell x w r (group_key h) ≡ flag h
   broken-flag h h_in =

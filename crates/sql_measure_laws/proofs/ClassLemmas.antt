@@ -1,6 +1,6 @@
 -- What the query of a functional dependency gives.
-use Rattle.std.proofs.Common.{◌≡◌, ◌<◌, ℕ, Bool, true, false, List, [], ◌∷◌, ◌++◌, length, map, filter, Some, None, Option, refl, sym, ap, subst, ◌∙◌, inl, inr, arith}
-use Rattle.std.proofs.lemmas.Bool.{cases_Bool, true≢false}
+use Rattle.std.proofs.Common.{◌≡◌, ℕ, Bool, true, List, [], ◌∷◌, ◌++◌, length, map, filter, Some, Option, refl, sym, ap, subst, ◌∙◌}
+use Rattle.std.proofs.lemmas.Bool.{true≢false}
 use Rattle.std.proofs.lemmas.List.{length-map}
 use Rattle.std.specs.Prelude.{ℤ, pos, ◌-ℤ◌, nat_lt, Contains, if◌then◌else◌, option_map, option_and_then, codes}
 use Rattle.std.specs.Set.{unique_keys}
@@ -15,17 +15,15 @@ use Rattle.sql_syntax.specs.Syntax.{helper, Column, column, number_one, count, s
 use Rattle.sql_check.specs.Columns.{columns_on, group_name, groups_made}
 use Rattle.sql_measure.specs.Measures.{keys_on, class_count, classes_query, groups_query, group_count, change_query, rows_query}
 use Rattle.sql_evaluation.specs.Cells.{Cell, missing, number, same_row, subtracted}
-use Rattle.sql_evaluation.specs.Values.{each, of_both, named_cell, Look, look_at, View, value, sum_of}
-use Rattle.sql_evaluation.specs.Evaluation.{Rows, Engine, one_group, key_cell, item_name, item_value, evaluate}
+use Rattle.sql_evaluation.specs.Values.{each, of_both, Look, look_at, View, value, sum_of}
+use Rattle.sql_evaluation.specs.Evaluation.{Rows, Engine, one_group, key_cell, item_value, evaluate}
 use Rattle.sql_check_laws.specs.HeldRelations.{compared_cell, Holds}
-use Rattle.sql_check_laws.proofs.CellLemmas.{same_row-decides}
 use Rattle.sql_check_laws.proofs.CountsLemmas.{number_name}
-use Rattle.sql_check_laws.proofs.EachLemmas.{filter-known}
 use Rattle.sql_check_laws.proofs.GroupLemmas.{Cells, pick, pick-cells, value-row, row-value, key-known, keys-known, class_of}
 use Rattle.sql_check_laws.proofs.ValuesLemmas.{cells_on, names_on, values_of}
 use Rattle.sql_measure_laws.proofs.SumLemmas.{sum_over, max_over, times}
 use Rattle.sql_measure_laws.proofs.GroupedLemmas.{keys_by, view_of, grouped-known, sum_cell, max_cell, sum-value, max-value, IsThirdName, rows_if, totals-known}
-use Rattle.sql_measure_laws.proofs.KeyLemmas.{stored-known, keys_of, keys-are, KeyOn, key-on, made_view, made-shown, counted-keys, counted-cell, made-names, passing-keys}
+use Rattle.sql_measure_laws.proofs.KeyLemmas.{stored-known, keys_of, keys-are, KeyOn, made-shown, counted-keys, counted-cell, made-names, passing-keys}
 
 -- ---- classes
 -- how many tuples have these values on w

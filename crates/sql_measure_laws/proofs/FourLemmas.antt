@@ -1,10 +1,10 @@
 -- Four counts beside each value on a set, and the query of a multivalued dependency.
-use Rattle.std.proofs.Common.{◌≡◌, ◌+◌, ◌*◌, ℕ, Bool, true, false, not, List, [], ◌∷◌, ◌++◌, length, map, filter, Some, None, Option, refl, sym, ap, subst, ◌∙◌, inl, inr, ⊎_elim, arith}
+use Rattle.std.proofs.Common.{◌≡◌, ◌*◌, ℕ, Bool, true, false, not, List, [], ◌∷◌, ◌++◌, length, map, filter, Some, Option, refl, sym, ap, subst, ◌∙◌, inl, inr, ⊎_elim, arith}
 use Rattle.std.proofs.lemmas.Bool.{cases_Bool}
 use Rattle.std.proofs.lemmas.Bool.Decides.{Decides-int_eq, same_from_decides}
 use Rattle.std.proofs.lemmas.List.{length-map, map-append, map-id}
 use Rattle.std.specs.Ordering.{int_eq}
-use Rattle.std.specs.Prelude.{ℤ, pos, ◌+ℤ◌, ◌-ℤ◌, ◌*ℤ◌, Contains, if◌then◌else◌, option_map, option_and_then, codes}
+use Rattle.std.specs.Prelude.{ℤ, pos, ◌+ℤ◌, ◌-ℤ◌, Contains, if◌then◌else◌, option_map, option_and_then, codes}
 use Rattle.std.specs.Set.{unique_keys}
 use Rattle.std.specs.Str.{bytes_eq}
 use lib.IntN.{pos-+ℤ-pos, pos-*ℤ-pos, -ℤ-+ℤ_cancel, +ℤ_invr, +ℤ_idl, +ℤ_idr}
@@ -19,15 +19,15 @@ use Rattle.sql_syntax.specs.Syntax.{helper, Column, column, number_zero, sum, su
 use Rattle.sql_check.specs.Columns.{columns_on, column_at, group_name, groups_made}
 use Rattle.sql_check.specs.Checks.{has_members, values_query}
 use Rattle.sql_measure.specs.Measures.{keys_on, marks_query, counted_rows, counts_query, rows_query, first_of_four, second_of_four, third_of_four, fourth_of_four, four_counts, sum_column, pairs_query, group_count, lack_query}
-use Rattle.sql_evaluation.specs.Cells.{Cell, missing, number, same_row, added, multiplied, subtracted, differ, total}
-use Rattle.sql_evaluation.specs.Values.{each, of_both, named_cell, Look, look_at, View, value, sum_of}
-use Rattle.sql_evaluation.specs.Evaluation.{Rows, Engine, row_view, one_group, key_cell, item_name, item_value, with_items, selected, evaluate}
+use Rattle.sql_evaluation.specs.Cells.{Cell, missing, number, same_row, added, multiplied, subtracted, total}
+use Rattle.sql_evaluation.specs.Values.{each, of_both, named_cell, Look, look_at, sum_of}
+use Rattle.sql_evaluation.specs.Evaluation.{Rows, Engine, row_view, key_cell, item_name, item_value, with_items, selected, evaluate}
 use Rattle.sql_check_laws.specs.HeldRelations.{RowsHold, compared_cell, Holds}
 use Rattle.sql_check_laws.proofs.CellLemmas.{same_row-decides}
 use Rattle.sql_check_laws.proofs.CountLemmas.{AreWithin, unique-append_within, unique-unique}
 use Rattle.sql_check_laws.proofs.CountsLemmas.{number_name}
 use Rattle.sql_check_laws.proofs.EachLemmas.{each-known, each-map, map-map, map-known, filter-known, filter-map}
-use Rattle.sql_check_laws.proofs.GroupLemmas.{Cells, look, pick, pick-cells, value-row, row-value, key-known, keys-known, class_of}
+use Rattle.sql_check_laws.proofs.GroupLemmas.{Cells, look, pick, pick-cells, row-value, key-known, keys-known}
 use Rattle.sql_check_laws.proofs.LawLemmas.{nil_not_empty}
 use Rattle.sql_check_laws.proofs.PairLemmas.{append-member}
 use Rattle.sql_check_laws.proofs.ThreeLemmas.{union-known, size_on}
@@ -35,7 +35,7 @@ use Rattle.sql_check_laws.proofs.UnpairedLemmas.{uneven, uneven_at}
 use Rattle.sql_check_laws.proofs.ValuesLemmas.{cells_on, names_on, values_of, values-known}
 use Rattle.sql_measure_laws.proofs.SumLemmas.{sum_over, times}
 use Rattle.sql_measure_laws.proofs.GroupedLemmas.{keys_by, view_of, grouped-known, sum_cell, sum-value, group_of, IsThirdName, rows_if, totals-known}
-use Rattle.sql_measure_laws.proofs.KeyLemmas.{stored-known, keys_of, keys-are, KeyOn, key-on, made-shown, counted-keys, counted-cell, made-names, key-once, passing-keys}
+use Rattle.sql_measure_laws.proofs.KeyLemmas.{stored-known, keys_of, keys-are, key-on, made-shown, counted-keys, counted-cell, made-names, key-once, passing-keys}
 
 -- ---- one of the four
 -- items that count show a count, whatever the group is

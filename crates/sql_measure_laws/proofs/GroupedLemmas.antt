@@ -1,14 +1,13 @@
 -- What a query that groups its source gives, whatever the source is.
-use Rattle.std.proofs.Common.{◌≡◌, ◌+◌, ◌==◌, ℕ, Bool, true, false, List, [], ◌∷◌, ◌++◌, length, map, filter, Some, None, Option, refl, sym, ap, subst, ◌∙◌, inl, inr, arith}
-use Rattle.std.proofs.lemmas.Bool.{cases_Bool}
-use Rattle.std.proofs.lemmas.List.{length-map, map-id}
+use Rattle.std.proofs.Common.{◌≡◌, ◌+◌, ◌==◌, ℕ, Bool, true, false, List, [], ◌∷◌, length, map, filter, Some, None, Option, refl, sym, ap, ◌∙◌, inl, inr, arith}
+use Rattle.std.proofs.lemmas.Bool.{cases_Bool, lt-ltb}
+use Rattle.std.proofs.lemmas.List.{length-map}
 use Rattle.std.proofs.lemmas.Bool.Decides.{nat_tests}
 use Rattle.std.specs.Prelude.{◌↔◌, ℤ, pos, ◌-ℤ◌, nat_lt, Contains, if◌then◌else◌, option_map, option_and_then, codes, unwrap_or}
 use Rattle.std.specs.Set.{unique_keys}
 use Rattle.std.specs.Str.{bytes_eq}
 use lib.IntN.{pos-+ℤ-pos, +ℤ-neg_ℤ_cancel}
 use Rattle.dep_model.proofs.ListLemmas.{Contains-head, Contains-later}
-use Rattle.dep_model.proofs.DistinctLemmas.{filter-member}
 use Rattle.sql_syntax.specs.Names.{is_not_empty}
 use Rattle.sql_syntax.specs.Syntax.{attribute, Column, column, Scalar, number_zero, count, sum, Condition, exceeds, Item, own, named, Query, select, rows_where, group_where, groups_by}
 use Rattle.sql_measure.specs.Measures.{shown_column, totals_query}
@@ -19,7 +18,6 @@ use Rattle.sql_check_laws.proofs.CellLemmas.{same_row-decides}
 use Rattle.sql_check_laws.proofs.EachLemmas.{each-known, each-map, map-map, map-known, filter-known, filter-map, taken-known}
 use Rattle.sql_check_laws.proofs.GroupLemmas.{group_views-some, taken-map}
 use Rattle.sql_check_laws.proofs.SeveralLemmas.{shows_none}
-use Rattle.row_measures.specs.declared.breach.Measure.{Measure}
 use Rattle.sql_measure_laws.specs.Measured.{rows_of_measure}
 use Rattle.sql_measure_laws.proofs.SumLemmas.{sum_over, max_over, larger}
 
@@ -130,20 +128,20 @@ greatest-cells {E} f (p ∷ q ∷ ps) =
 
 -- rows as a group, whatever its columns have
 abbrev pub group_of : {E : Type 0} → Look → (E → Look) → List E → View
-group_of own look ps = record { own = own; rows = Some (map look ps) }
+group_of held look ps = record { own = held; rows = Some (map look ps) }
 
 cells-known : {E : Type 0} (look : E → Look) (c : Column) (f : E → ℕ) (ps : List E) → ((p : E) → Contains ps p → look p c ≡ Some (number (pos (f p))))
     → each (λ (l : Look). l c) (map look ps) ≡ Some (map (λ p. number (pos (f p))) ps)
 cells-known {E} look c f ps known =
     each-map (λ (l : Look). l c) look ps ∙ each-known (λ (p : E). look p c) (λ (p : E). number (pos (f p))) ps known
 
-pub sum-value : {E : Type 0} (own : Look) (look : E → Look) (c : Column) (f : E → ℕ) (ps : List E)
-    → ((p : E) → Contains ps p → look p c ≡ Some (number (pos (f p)))) → sum_of (group_of own look ps) c ≡ Some (sum_cell f ps)
-sum-value own look c f ps known = ap (option_and_then total) (cells-known look c f ps known) ∙ total-cells f ps
+pub sum-value : {E : Type 0} (held : Look) (look : E → Look) (c : Column) (f : E → ℕ) (ps : List E)
+    → ((p : E) → Contains ps p → look p c ≡ Some (number (pos (f p)))) → sum_of (group_of held look ps) c ≡ Some (sum_cell f ps)
+sum-value held look c f ps known = ap (option_and_then total) (cells-known look c f ps known) ∙ total-cells f ps
 
-pub max-value : {E : Type 0} (own : Look) (look : E → Look) (c : Column) (f : E → ℕ) (ps : List E)
-    → ((p : E) → Contains ps p → look p c ≡ Some (number (pos (f p)))) → maximum_of (group_of own look ps) c ≡ Some (max_cell f ps)
-max-value own look c f ps known = ap (option_and_then greatest_of) (cells-known look c f ps known) ∙ greatest-cells f ps
+pub max-value : {E : Type 0} (held : Look) (look : E → Look) (c : Column) (f : E → ℕ) (ps : List E)
+    → ((p : E) → Contains ps p → look p c ≡ Some (number (pos (f p)))) → maximum_of (group_of held look ps) c ≡ Some (max_cell f ps)
+max-value held look c f ps known = ap (option_and_then greatest_of) (cells-known look c f ps known) ∙ greatest-cells f ps
 
 -- ---- three numbers
 -- a row of three numbers, where there is a group
@@ -259,7 +257,9 @@ rows-stated n m d =
 -- there is none exactly where no group is
 pub no-rows : {X : Type 0} (xs : List X) (b c : Cell) → (rows_if (length xs) b c ≡ []) ↔ (xs ≡ [])
 no-rows [] b c = (λ e. refl, λ e. refl)
-no-rows (x ∷ xs) b c = (
-  λ e. absurd (shows_none (rows_if (length (x ∷ xs)) b c) (number (pos (length (x ∷ xs))) ∷ b ∷ c ∷ []) e (Contains-head (number (pos (length (x ∷ xs))) ∷ b ∷ c ∷ []) [])),
-  λ e. absurd (shows_none (x ∷ xs) x e (Contains-head x xs)),
-)
+no-rows (x ∷ xs) b c =
+    let row : List Cell = number (pos (length (x ∷ xs))) ∷ b ∷ c ∷ [] in
+    let some : nat_lt 0 (length (x ∷ xs)) ≡ true = lt-ltb 0 (length (x ∷ xs)) (omega arith) in (
+      λ e. absurd (shows_none (row ∷ []) row (sym (ap (λ (t : Bool). if t then row ∷ [] else []) some) ∙ e) (Contains-head row [])),
+      λ e. absurd (shows_none (x ∷ xs) x e (Contains-head x xs)),
+    )

@@ -1,7 +1,7 @@
 -- The values by which rows are grouped, of a relation in a table, and the columns that show them.
-use Rattle.std.proofs.Common.{◌≡◌, ◌<◌, ℕ, Bool, true, false, List, [], ◌∷◌, ◌++◌, map, filter, Some, None, Option, refl, sym, ap, subst, ◌∙◌, inl, inr, arith}
-use Rattle.std.proofs.lemmas.Bool.{cases_Bool, true≢false}
-use Rattle.std.specs.Prelude.{ℤ, pos, Contains, if◌then◌else◌, option_map, option_and_then, codes}
+use Rattle.std.proofs.Common.{◌≡◌, ℕ, Bool, true, false, List, [], ◌∷◌, ◌++◌, map, filter, Some, None, Option, refl, sym, ap, subst, ◌∙◌, inl, inr}
+use Rattle.std.proofs.lemmas.Bool.{cases_Bool}
+use Rattle.std.specs.Prelude.{ℤ, Contains, if◌then◌else◌, option_map, option_and_then, codes}
 use Rattle.std.specs.Set.{unique_keys, is_member}
 use Rattle.std.specs.Str.{bytes_eq}
 use Rattle.std.proofs.lemmas.List.{map-append}
@@ -9,7 +9,7 @@ use Rattle.attr_sets.specs.Attributes.{Attributes, IsSubset}
 use Rattle.schema_model.specs.Schemas.{Schema}
 use Rattle.dep_model.specs.Projections.{members_below}
 use Rattle.schema_model.specs.Schemas.{width_of}
-use Rattle.dep_model.specs.Tuples.{Tuple, Relation, value_at}
+use Rattle.dep_model.specs.Tuples.{Relation, value_at}
 use Rattle.dep_model.proofs.ListLemmas.{Contains-head, Contains-nil, Contains-cases}
 use Rattle.sql_syntax.specs.Names.{is_not_empty}
 use Rattle.sql_syntax.specs.Syntax.{Column, column, Item, named, each_row}
@@ -17,7 +17,7 @@ use Rattle.sql_check.specs.Columns.{name_at, column_at, columns_on, compared_at,
 use Rattle.sql_check.specs.Checks.{has_members}
 use Rattle.sql_measure.specs.Measures.{made_column, keys_on, rows_query}
 use Rattle.sql_evaluation.specs.Cells.{Cell, missing, same_row}
-use Rattle.sql_evaluation.specs.Values.{each, bytes_of, named_cell, Look, look_at, View}
+use Rattle.sql_evaluation.specs.Values.{each, named_cell, Look, look_at, View}
 use Rattle.sql_evaluation.specs.Evaluation.{Engine, key_cell, item_name, item_value, with_items, selected, evaluate}
 use Rattle.sql_check_laws.specs.HeldRelations.{compared_cell, Holds}
 use Rattle.sql_check_laws.proofs.CellLemmas.{same_row-decides, member_of, is_member_of, names_on_apart}
@@ -25,7 +25,7 @@ use Rattle.sql_check_laws.proofs.ColumnLemmas.{bytes_self, key_cell-member}
 use Rattle.sql_check_laws.proofs.CountLemmas.{filter-once, from_unique, member_told}
 use Rattle.sql_check_laws.proofs.CountsLemmas.{each-append, number_name, number_names_apart, named-left, named-right}
 use Rattle.sql_check_laws.proofs.EachLemmas.{each-known, each-map, map-map, map-known}
-use Rattle.sql_check_laws.proofs.GroupLemmas.{Cells, look, pick, pick-cells, value-row, row-value, key-known}
+use Rattle.sql_check_laws.proofs.GroupLemmas.{Cells, value-row}
 use Rattle.sql_check_laws.proofs.LawLemmas.{nil_not_empty}
 use Rattle.sql_check_laws.proofs.ValuesLemmas.{cells_on, names_on, values_of, rows-known}
 use Rattle.sql_measure_laws.proofs.GroupedLemmas.{keys_by}
@@ -52,13 +52,13 @@ not_empty-map f [] = refl
 not_empty-map f (x ∷ xs) = refl
 
 -- columns of the attributes of x have these keys, where the rows have these values there
-pub keys-are : (s : Schema) (cell : Cells) (x : Attributes) (r : Relation) (column : ℕ → Column) (given : List (List Cell))
+pub keys-are : (s : Schema) (cell : Cells) (x : Attributes) (r : Relation) (named_by : ℕ → Column) (given : List (List Cell))
     → (has_members s x ≡ true → unique_keys same_row given ≡ values_of s cell x r)
-    → keys_by (map column (members_below (width_of s) x)) given ≡ keys_of s cell x r
-keys-are s cell x r column given same =
+    → keys_by (map named_by (members_below (width_of s) x)) given ≡ keys_of s cell x r
+keys-are s cell x r named_by given same =
     let by = λ (b : Bool). if b then unique_keys same_row given else [] ∷ [] in
     let values = λ (b : Bool). if b then values_of s cell x r else [] ∷ [] in
-    ap by (not_empty-map column (members_below (width_of s) x)) ∙ elim (cases_Bool (has_members s x)) [
+    ap by (not_empty-map named_by (members_below (width_of s) x)) ∙ elim (cases_Bool (has_members s x)) [
       | inl some ↦ ap by some ∙ same some ∙ ap values (sym some)
       | inr none ↦ ap by none ∙ ap values (sym none)
     ]
@@ -70,7 +70,7 @@ KeyOn s x key = (shown : ℕ → Cell) × (map shown (members_below (width_of s)
 value-on : (s : Schema) (cell : Cells) (x : Attributes) (r : Relation) (key : List Cell) → Contains (values_of s cell x r) key → KeyOn s x key
 value-on s cell x r key h =
     let v = value-row s cell x r key h in
-    (λ (k : ℕ). compared_cell cell k (value_at v.0 k), v.1)
+    (λ (k : ℕ). compared_cell cell k (value_at v.0 k), v.2)
 
 only-key : (key : List Cell) → Contains ([] ∷ []) key → key ≡ []
 only-key key h = elim (Contains-cases [] [] key h) [

@@ -1,29 +1,27 @@
 -- The numbers that the query of a multivalued dependency gives are those of the measure.
-use Rattle.std.proofs.Common.{◌≡◌, ◌<◌, ◌≤◌, ◌+◌, ◌-◌, ◌*◌, ◌==◌, ◌&&◌, not, ℕ, Bool, true, false, List, [], length, map, filter, get_or, refl, sym, ap, subst, ◌∙◌, inl, inr, arith}
-use Rattle.std.proofs.lemmas.Bool.{cases_Bool, cases_lt, cases_eq, true≢false, eqb-true, eq-eqb}
-use Rattle.std.proofs.lemmas.Bool.Decides.{nat_tests}
+use Rattle.std.proofs.Common.{◌≡◌, ◌<◌, ◌+◌, ◌-◌, ◌*◌, ◌==◌, ◌&&◌, ℕ, Bool, true, false, List, length, map, refl, sym, ap, subst, ◌∙◌, inl, inr, arith}
+use Rattle.std.proofs.lemmas.Bool.{cases_Bool, cases_lt, true≢false, eqb-true, eq-eqb}
 use Rattle.std.proofs.lemmas.List.{get_or-map, get_or_past, length-map}
 use Rattle.std.proofs.lemmas.List.FromFn.{length-map-range_with_len, get_or-map-range_with_len}
 use Rattle.std.specs.List.{range_with_len}
-use Rattle.std.specs.Prelude.{ℤ, pos, ◌-ℤ◌, Contains, if◌then◌else◌}
+use Rattle.std.specs.Prelude.{ℤ, pos, Contains}
 use Rattle.attr_sets.specs.Attributes.{Attributes, below, union, difference, count_below, IsSubset}
 use Rattle.attr_sets.proofs.AttributesLemmas.{count_below-equal, count_below-none, union_within}
 use Rattle.schema_model.specs.Schemas.{Schema}
 use Rattle.schema_model.specs.Schemas.{width_of}
 use Rattle.dep_model.specs.Dependencies.{mvd, rest_beside}
-use Rattle.dep_model.specs.Tuples.{Relation, AgreeOn}
+use Rattle.dep_model.specs.Tuples.{Relation}
 use Rattle.dep_model.proofs.TwoRowLemmas.{AgreeOn-left}
 use Rattle.dep_model.proofs.DistinctLemmas.{filter-member}
 use Rattle.legality.specs.Parts.{ArePartCounts, flag_at, part_count}
 use Rattle.legality.proofs.PartLemmas.{Grouping}
-use Rattle.removal_laws.specs.Classes.{rows_of}
 use Rattle.removal_laws.specs.Counts.{total}
 use Rattle.removal_laws.proofs.CountLemmas.{in_group, count_by_groups, total-same}
 use Rattle.row_groups.specs.Numberings.{number_at, AreGroups, AreFirsts}
 use Rattle.row_groups.proofs.NumberingLemmas.{same_groups, union-assoc, union-difference, union-rest}
 use Rattle.row_measures.specs.Answers.{measure_by_parts, IsMeasure}
 use Rattle.row_measures.specs.declared.breach.Measure.{Measure}
-use Rattle.row_measures.specs.Broken.{AreFlags, LacksRow, lacks, missing_pairs, flagged_groups, flagged_rows}
+use Rattle.row_measures.specs.Broken.{lacks, missing_pairs, flagged_groups, flagged_rows}
 use Rattle.row_measures.specs.ByPart.{AreShort}
 use Rattle.row_measures.specs.Sorted.{Parts}
 use Rattle.row_measures.proofs.MissingLemmas.{shortage_at, lacking_groups}
@@ -31,11 +29,11 @@ use Rattle.row_store.specs.Rows.{row_at}
 use Rattle.sql_evaluation.specs.Cells.{Cell, number, same_row}
 use Rattle.sql_check_laws.proofs.GroupLemmas.{Cells, pick, pick-cells}
 use Rattle.sql_check_laws.proofs.ThreeLemmas.{size_on}
-use Rattle.sql_check_laws.proofs.UnpairedLemmas.{uneven, uneven_at, even_told, told_even}
+use Rattle.sql_check_laws.proofs.UnpairedLemmas.{uneven_at, even_told, told_even}
 use Rattle.sql_check_laws.proofs.ValuesLemmas.{cells_on, values_of}
 use Rattle.sql_measure_laws.specs.Measured.{rows_of_measure}
-use Rattle.sql_measure_laws.proofs.SumLemmas.{when, sum_over, sum-known, length-sum, total-count, total-sum}
-use Rattle.sql_measure_laws.proofs.TotalLemmas.{total-zero, total-some, part-total, total-by-groups, count-times}
+use Rattle.sql_measure_laws.proofs.SumLemmas.{when, sum_over, length-sum, total-count, total-sum}
+use Rattle.sql_measure_laws.proofs.TotalLemmas.{total-some, part-total, total-by-groups, count-times}
 use Rattle.sql_measure_laws.proofs.GroupedLemmas.{rows_if, pos-less, rows-stated}
 use Rattle.sql_measure_laws.proofs.NumberLemmas.{AreSeparate, first_in, key-decides, every-value, values-total, stands-rows}
 use Rattle.sql_measure_laws.proofs.FlagLemmas.{passing-sum, passing-count, passing-rows}
@@ -402,6 +400,7 @@ module _ (s : Schema) (cell : Cells) (r : Relation) (x y : Attributes)
         ∙ sym (total-by-groups lacking owner group_count left_count owner_in)
 
     lack-numbers : lack_rows (tuples_with s cell x r) (surplus s cell r x right rest) keys ≡ rows_of_measure (measure_by_parts parts)
+    unfolding parts flags
     lack-numbers =
         let d = missing_pairs groups lefts left_firsts rests rest_firsts in
         let f = sum_over (tuples_with s cell x r) keys in

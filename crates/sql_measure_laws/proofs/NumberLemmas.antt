@@ -1,8 +1,8 @@
 -- The values of a relation on a set, and the numbers of its rows by what they have there.
-use Rattle.std.proofs.Common.{◌≡◌, ◌<◌, ◌+◌, ◌==◌, ◌&&◌, ◌↔◌, ℕ, Bool, true, false, List, [], ◌∷◌, length, map, filter, refl, sym, ap, subst, ◌∙◌, inl, inr, arith}
-use Rattle.std.proofs.lemmas.Bool.{cases_Bool, eqb-true, eq-eqb}
+use Rattle.std.proofs.Common.{◌≡◌, ◌<◌, ◌==◌, ℕ, List, [], ◌∷◌, length, map, filter, sym, ap, ◌∙◌, arith}
+use Rattle.std.proofs.lemmas.Bool.{eqb-true, eq-eqb}
 use Rattle.std.specs.Prelude.{Contains}
-use Rattle.attr_sets.specs.Attributes.{Attributes, count_below, IsSubset}
+use Rattle.attr_sets.specs.Attributes.{Attributes, count_below}
 use Rattle.attr_sets.proofs.AttributesLemmas.{count_below-equal, same_truth}
 use Rattle.schema_model.specs.Schemas.{Schema}
 use Rattle.dep_model.specs.Tuples.{Tuple, Relation, AgreeOn}

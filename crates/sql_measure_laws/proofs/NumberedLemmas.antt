@@ -1,10 +1,10 @@
 -- The rows of each relation have numbers by each set.
-use Rattle.std.proofs.Common.{◌≡◌, ◌<◌, ◌≤◌, ◌+◌, ◌⊎◌, ℕ, zero, suc, Bool, true, false, List, [], ◌∷◌, ◌++◌, length, Some, Option, refl, sym, ap, subst, ◌∙◌, inl, inr, arith}
+use Rattle.std.proofs.Common.{◌≡◌, ◌≤◌, ◌+◌, ◌⊎◌, ℕ, zero, suc, Bool, true, false, List, [], ◌∷◌, ◌++◌, length, Some, refl, ap, subst, inl, inr, arith}
 use Rattle.std.proofs.lemmas.Bool.{cases_Bool, cases_eq}
 use Rattle.std.specs.List.{slice_get}
 use Rattle.attr_sets.specs.Attributes.{Attributes}
 use Rattle.schema_model.specs.Schemas.{Schema}
-use Rattle.dep_model.specs.Tuples.{Tuple, Relation}
+use Rattle.dep_model.specs.Tuples.{Relation}
 use Rattle.legality.proofs.PairLemmas.{member_of}
 use Rattle.row_groups.specs.Numberings.{number_at, AreNumbered, AreInOrder, AreGroups, AreFirsts}
 use Rattle.row_groups.specs.Pairs.{Gets}
@@ -69,12 +69,15 @@ numbered {X} eq same value (suc n) =
 
 -- ---- first rows
 firsts_before : (numbers : List ℕ) → AreInOrder numbers → (i : ℕ) → i ≤ length numbers → (firsts : List ℕ) × FirstsBefore numbers i firsts
-firsts_before numbers order zero most = ([], record {
-  each = λ j low. absurd (omega (arith, low));
-  within = λ g low. absurd (omega (arith, low));
-  number = λ g low. absurd (omega (arith, low));
-  least = λ j low. absurd (omega (arith, low));
-})
+firsts_before numbers order zero most = (
+  [],
+  record {
+    each = λ j low. absurd (omega (arith, low));
+    within = λ g low. absurd (omega (arith, low));
+    number = λ g low. absurd (omega (arith, low));
+    least = λ j low. absurd (omega (arith, low));
+  },
+)
 firsts_before numbers order (suc i) most =
     let before = firsts_before numbers order i (omega (arith, most)) in
     let at : i + 1 ≡ suc i = omega arith in

@@ -1,13 +1,11 @@
 -- Sums over numbers, by the groups that they are of.
-use Rattle.std.proofs.Common.{◌≡◌, ◌<◌, ◌≤◌, ◌+◌, ◌*◌, ◌==◌, ◌⊎◌, ℕ, zero, suc, Bool, true, false, refl, sym, ap, ◌∙◌, inl, inr, arith}
-use Rattle.std.proofs.lemmas.Bool.{cases_Bool, cases_eq, cases_lt, eqb-true, eq-eqb}
-use Rattle.std.proofs.lemmas.Bool.Decides.{nat_tests}
+use Rattle.std.proofs.Common.{◌≡◌, ◌<◌, ◌≤◌, ◌+◌, ◌*◌, ◌==◌, ℕ, zero, suc, Bool, true, false, refl, sym, ap, ◌∙◌, inl, inr, arith}
+use Rattle.std.proofs.lemmas.Bool.{cases_eq, cases_lt, eq-eqb}
 use Rattle.std.specs.Prelude.{if◌then◌else◌}
 use Rattle.attr_sets.specs.Attributes.{count_below}
 use Rattle.legality.proofs.CountLemmas.{other_number}
 use Rattle.removal_laws.specs.Counts.{total}
-use Rattle.removal_laws.proofs.CountLemmas.{total-same}
-use Rattle.sql_measure_laws.proofs.SumLemmas.{when, when-add, total-sum}
+use Rattle.sql_measure_laws.proofs.SumLemmas.{when, total-sum}
 
 pub total-zero : (f : ℕ → ℕ) (n : ℕ) → ((k : ℕ) → k < n → f k ≡ 0) → total f n ≡ 0
 unfolding total
