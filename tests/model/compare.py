@@ -402,6 +402,39 @@ def f_explain_synthesize(m):
     return ["explain", "synthesize", "s"], {"s": m.schema_text(s)}
 
 
+def alike(m):
+    """A schema in which some left sides determine each other, one time in eight by way of many others."""
+    r = m.r
+    if r.random() < .125:
+        # the scheme of the first left side holds those of the next ones, until it is merged with that of the last but one
+        k = r.randint(1, 3)
+        names = NAMES[:2 * k + 3] + (["X"] if r.random() < .3 else [])
+        n = len(names)
+        at = [1 << a for a in r.sample(range(n), n)]
+        own, others, (via, far, last) = at[:k], at[k:2 * k], at[2 * k:2 * k + 3]
+        deps = [(sum(own + others), via), (via, far), (sum(own) | far, last), (last, via)]
+        deps += [(via | x, y) for x, y in zip(own, others)]
+        r.shuffle(deps)
+        return names, ["text"] * n, [(FD, x, y) for x, y in deps]
+    names, columns, deps = m.schema(2, 8, deps=r.randint(0, 6), mvd=r.choice((0, 0, 0, .3)))
+    for _ in range(r.choice((1, 1, 2))):
+        sides = [m.some(len(names), r.choice((1, 2, 3)), 1) for _ in range(r.choice((2, 2, 3)))]
+        for x, y in zip(sides, sides[1:] + sides[:1]):
+            deps += [(FD, x, y)] if r.random() < .8 else [(FD, x, 1 << a) for a in members(y)]
+    r.shuffle(deps)
+    return names, columns, deps
+
+
+def f_synthesize_fewest(m):
+    s = alike(m) if m.r.random() < .8 else m.schema(1, 8, deps=m.r.randint(0, 12))
+    return ["synthesize", "fewest", "s"], {"s": m.schema_text(s)}
+
+
+def f_explain_fewest(m):
+    words, files = f_synthesize_fewest(m)
+    return ["explain", *words], files
+
+
 def f_split(m):
     s = m.schema(1, 8)
     return ["split", m.r.choice(("bcnf", "4nf")), "s"], {"s": m.schema_text(s)}
@@ -436,7 +469,10 @@ def f_wide_split(m):
 
 def f_wide_form(m):
     s = wide(m, m.r.randint(0, 5))
-    return ["check", "form", m.r.choice(model.FORMS), "s", "p"], {"s": m.schema_text(s), "p": m.plan_text(s[0], m.plan(len(s[0]), 1, 3))}
+    # (of 18 to 20 attributes in left sides the model tries all sets, for `form` of each form)
+    is_slow = any(17 < bin(x).count("1") < 21 for _, x, _ in s[2])
+    words = ["form"] if m.r.random() < .3 and not is_slow else ["check", "form", m.r.choice(model.TESTED_FORMS)]
+    return [*words, "s", "p"], {"s": m.schema_text(s), "p": m.plan_text(s[0], m.plan(len(s[0]), 1, 3))}
 
 
 def f_wide_keys(m):
@@ -476,7 +512,22 @@ def f_join(m):
 
 
 def f_form(m):
-    return with_plan(m, ["check", "form", m.r.choice(model.FORMS), "s", "p"], 1, 7)
+    return with_plan(m, ["check", "form", m.r.choice(model.TESTED_FORMS), "s", "p"], 1, 7)
+
+
+def f_second_form(m):
+    """A schema whose left sides are mostly parts of keys of several attributes, and a plan of one scheme or more."""
+    r = m.r
+    s = alike(m) if r.random() < .2 else m.schema(2, 7, deps=r.randint(1, 6), mvd=r.choice((0, 0, 0, .3)))
+    plan = [(1 << len(s[0])) - 1] if r.random() < .5 else m.plan(len(s[0]))
+    return ["check", "form", "2nf", "s", "p"], {"s": m.schema_text(s), "p": m.plan_text(s[0], plan)}
+
+
+def f_which_form(m):
+    if m.r.random() < .5:
+        return with_plan(m, ["form", "s", "p"], 1, 7)
+    words, files = f_second_form(m)
+    return ["form", "s"] if m.r.random() < .7 else ["form", *words[3:]], files
 
 
 def f_keys_plan(m):
@@ -857,7 +908,7 @@ def f_sql(m):
     return words, files
 
 
-ALL_WORDS = ["implies", "keys", "cover", "synthesize", "split", "bcnf", "4nf", "3nf", "wide-bcnf", "ddl", "plan", "check", "proof", "join", "form",
+ALL_WORDS = ["implies", "keys", "cover", "synthesize", "fewest", "split", "bcnf", "4nf", "3nf", "2nf", "wide-bcnf", "ddl", "plan", "check", "proof", "join", "form",
              "report", "rows", "same", "keeps", "migrate", "sample", "exhibit", "discover", "import", "csv", "sqlite", "postgres", "rejoin", "basis", "closure", "project", "key", "explain", "sql", "draw", "measure", "offences", "kept", "into", "help", "--help", "-h", "--version",
              "s", "p", "r", "A -> B", "1", "missing", "", "Keys", "table"]
 ALL_WORDS += [command for command in model.OF_A_SCHEMA if command not in ALL_WORDS]
