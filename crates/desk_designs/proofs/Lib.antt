@@ -1,6 +1,7 @@
 pub mod LossLemmas
 pub mod SplitLemmas
 pub mod MissingLemmas
+mod SynthesisTexts
 mod FewestTexts
 mod FewestMade
 mod ShownLosses

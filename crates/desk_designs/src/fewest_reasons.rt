@@ -103,7 +103,8 @@ fn put_plain(
         &steps.schemes,
         kept,
     )?;
-    add(text, &reasons)
+    add(text, &reasons)?;
+    Ok(())
 }
 
 // How the merged plan comes about.
@@ -196,7 +197,8 @@ fn put_sets(text: &mut Vec<u8>, schema: &Schema, sets: &[AttrSet]) -> Result<(),
         return Ok(());
     }
     add_set(text, schema, sets[0])?;
-    put_more_sets(text, schema, sets)
+    put_more_sets(text, schema, sets)?;
+    Ok(())
 }
 
 // The sets of a list but the first, each after ` and `, at the end of a text.

@@ -14,24 +14,9 @@ use Rattle.schema_printer.specs.Spelling.{printed_names_of}
 use Rattle.synthesis_3nf.specs.Groups.{left_sides_after}
 use Rattle.desk_responses.specs.ResponseValues.{text_only}
 use Rattle.desk_responses.specs.declared.status.Status.TheVariants.{Yes}
-use Rattle.desk_designs.specs.LeftOut.{left_out_text}
-use Rattle.desk_designs.specs.SynthesisReasons.{cover_text, group_text, key_text, synthesis_text}
+use Rattle.desk_designs.specs.SynthesisReasons.{synthesis_text}
+use Rattle.desk_designs.proofs.SynthesisTexts.{text_is, text_of}
 use Rattle.desk_designs.proofs.synthesis_reasons.explained_synthesis.Goals as goal
-
--- the text of lists of the code
-abbrev text_of : List (List ℕ) → List Dep → List AttrSet → List AttrSet → List ℕ
-text_of names cover lefts all =
-    cover_text names (dependencies_of cover) ++ flat_map (group_text names (dependencies_of cover)) (schemes_of lefts)
-    ++ left_out_text names all ++ flat_map (key_text names) (drop (length lefts) (schemes_of all))
-
-text_is : (names : List (List ℕ)) (cover : List Dep) (lefts all : List AttrSet) → schemes_of lefts ≡ left_sides_after [] (dependencies_of cover)
-    → text_of names cover lefts all ≡ synthesis_text names (dependencies_of cover) all
-text_is names cover lefts all are =
-    let ds = dependencies_of cover in
-    let told : List Attributes → ℕ → List ℕ = λ xs m.
-    cover_text names ds ++ flat_map (group_text names ds) xs ++ left_out_text names all ++ flat_map (key_text names) (drop m (schemes_of all)) in
-    ap (told (schemes_of lefts)) (sym (length-map lefts attributes) ∙ ap (λ (xs : List Attributes). length xs) are)
-    ∙ ap (λ (xs : List Attributes). told xs (length (left_sides_after [] ds))) are
 
 pub plan_of_steps-requires : goal.plan_of_steps-requires
 plan_of_steps-requires c = record {
