@@ -1,5 +1,5 @@
 -- The plan with the fewest schemes of a schema, made of its steps.
-use Rattle.std.proofs.Common.{◌≡◌, ◌≤◌, List, length, ap, subst, arith}
+use Rattle.std.proofs.Common.{List, length, ap, arith}
 use Rattle.std.specs.Prelude.{All}
 use Rattle.attr_sets.specs.declared.set.AttrSet.{AttrSet}
 use Rattle.dep_model.specs.Forms.{IsThird}
@@ -7,7 +7,7 @@ use Rattle.dep_model.specs.Plans.{schemes_of}
 use Rattle.dep_model.specs.Preservation.{KeepsDependencies}
 use Rattle.dep_model.specs.Projections.{IsLossless}
 use Rattle.schema_model.specs.Schemas.{Schema, width_of, theory_of, theory_in, nullable_of}
-use Rattle.fewest_tables.specs.MergedPlans.{IsFewestPlan, smaller}
+use Rattle.fewest_tables.specs.MergedPlans.{IsFewestPlan}
 use Rattle.fewest_tables.proofs.MadeLemmas.{plan_fewest, smaller_no_more}
 use Rattle.desk_designs.specs.FewestTables.{IsFewestTables}
 

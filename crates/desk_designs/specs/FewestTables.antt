@@ -1,6 +1,6 @@
 -- A decomposition in third normal form with as few schemes as left sides that determine each other
 -- allow: for `synthesize fewest`.
-use Rattle.std.specs.Prelude.{ℕ, ◌≤◌, List, All, length}
+use Rattle.std.specs.Prelude.{◌≤◌, List, All, length}
 use Rattle.attr_sets.specs.declared.set.AttrSet.{AttrSet}
 use Rattle.dep_model.specs.Forms.{IsThird}
 use Rattle.dep_model.specs.Plans.{schemes_of}

@@ -1,5 +1,5 @@
 -- What is left to prove of `fewest_response`: its clause, by `fewest_made`.
-use Rattle.std.proofs.Common.{refl, ap, ◌∙◌}
+use Rattle.std.proofs.Common.{ap, ◌∙◌}
 use Rattle.desk_responses.specs.ResponseValues.{text_only}
 use Rattle.desk_responses.specs.declared.status.Status.TheVariants.{Yes}
 use Rattle.plans.specs.Plans.{scheme_sets}

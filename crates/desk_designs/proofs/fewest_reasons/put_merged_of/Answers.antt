@@ -1,5 +1,5 @@
 -- What is left to prove of `put_merged_of`: that the invariant of its loop stays.
-use Rattle.std.proofs.Common.{◌≡◌, ◌<◌, ℕ, List, ◌++◌, length, get_or, map, take, sym, ap, ◌∙◌, append_assoc}
+use Rattle.std.proofs.Common.{◌<◌, ℕ, List, ◌++◌, length, get_or, map, take, sym, ap, ◌∙◌, append_assoc}
 use Rattle.std.specs.List.{flat_map}
 use Rattle.dep_model.specs.Deps.{dependencies_of}
 use Rattle.fd_closure.specs.declared.known.KnownClosure.{KnownClosure}

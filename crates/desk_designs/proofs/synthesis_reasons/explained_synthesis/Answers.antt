@@ -1,9 +1,5 @@
 -- What is left to prove of `explained_synthesis`: what `print_reasons` requires, and its clause.
-use Rattle.std.proofs.Common.{◌≡◌, List, ℕ, [], ◌++◌, length, drop, refl, sym, ap, ◌∙◌, inl}
-use Rattle.std.proofs.lemmas.List.{length-map}
-use Rattle.std.specs.List.{flat_map}
-use Rattle.attr_sets.specs.Attributes.{Attributes}
-use Rattle.attr_sets.specs.Sets.{attributes}
+use Rattle.std.proofs.Common.{◌≡◌, List, ℕ, ◌++◌, refl, ap, ◌∙◌, inl}
 use Rattle.attr_sets.specs.declared.set.AttrSet.{AttrSet}
 use Rattle.dep_model.specs.declared.dep.Dep.{Dep}
 use Rattle.dep_model.specs.Deps.{dependencies_of}
@@ -11,7 +7,6 @@ use Rattle.dep_model.specs.Plans.{schemes_of}
 use Rattle.plan_printer.specs.Printing.{plan_text}
 use Rattle.schema_model.specs.Schemas.{nullable_of}
 use Rattle.schema_printer.specs.Spelling.{printed_names_of}
-use Rattle.synthesis_3nf.specs.Groups.{left_sides_after}
 use Rattle.desk_responses.specs.ResponseValues.{text_only}
 use Rattle.desk_responses.specs.declared.status.Status.TheVariants.{Yes}
 use Rattle.desk_designs.specs.SynthesisReasons.{synthesis_text}
