@@ -54,13 +54,14 @@ plan_texts_more : (s : Schema) (plan : List Attributes) (scheme : Attributes) (t
     → ArePlanTexts s (plan ++ scheme ∷ []) (text ++ one)
 plan_texts_more s [] scheme text one empty is =
     (one, [], is, refl, ap (λ (t : List ℕ). t ++ one) empty ∙ sym (append-nil one))
-plan_texts_more s (x ∷ plan) scheme text one (front, back, first, rest, whole) is = (
-  front,
-  back ++ one,
-  first,
-  plan_texts_more s plan scheme back one rest is,
-  ap (λ (t : List ℕ). t ++ one) whole ∙ append_assoc front back one,
-)
+plan_texts_more s (x ∷ plan) scheme text one (front, back, first, rest, whole) is =
+    (
+      front,
+      back ++ one,
+      first,
+      plan_texts_more s plan scheme back one rest is,
+      ap (λ (t : List ℕ). t ++ one) whole ∙ append_assoc front back one,
+    )
 
 pub listed_more : (s : Schema) (found : List TestedScheme) (i : ℕ) (d : TestedScheme) (text one next : List ℕ) → i < length found
     → ArePlanTexts s (schemes_tested (take i found)) text → IsSchemeText s (attributes (get_or found i d).scheme) one → next ≡ text ++ one
