@@ -1,6 +1,8 @@
 pub mod LossLemmas
 pub mod SplitLemmas
 pub mod MissingLemmas
+mod FewestTexts
+mod FewestMade
 mod ShownLosses
 mod ShownFirst
 mod TestedLemmas

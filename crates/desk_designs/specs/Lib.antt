@@ -11,3 +11,5 @@ pub mod Drawings
 pub mod LeftOut
 pub mod SynthesisReasons
 pub mod SplitReasons
+pub mod FewestTables
+pub mod FewestReasons

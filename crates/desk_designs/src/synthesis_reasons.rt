@@ -48,7 +48,7 @@ fn explained_synthesis(alloc: Global, schema: &Schema) -> Result<Response, OutOf
 }
 
 // How the plan comes about.
-fn print_reasons(
+pub fn print_reasons(
     alloc: Global,
     schema: &Schema,
     cover: &[Dep],
@@ -74,7 +74,7 @@ fn print_reasons(
 }
 
 // A line for each member of a cover, at the end of a text.
-fn put_cover(text: &mut Vec<u8>, schema: &Schema, cover: &[Dep]) -> Result<(), OutOfMemory>
+pub fn put_cover(text: &mut Vec<u8>, schema: &Schema, cover: &[Dep]) -> Result<(), OutOfMemory>
     ensures added { OnOk result (text.new.items
         ≡ text.old.items ++ cover_text (printed_names_of schema.now) (dependencies_of cover.now)) }
 {
@@ -127,7 +127,7 @@ fn put_group(
 }
 
 // A line for each scheme from a position of a list on, where a key is added, at the end of a text.
-fn put_added(
+pub fn put_added(
     text: &mut Vec<u8>,
     schema: &Schema,
     all: &[AttrSet],

@@ -1,26 +1,23 @@
 -- The plan of a normal form is a plan: its schemes have attributes, lie within the universe and cover it.
-use Rattle.std.proofs.Common.{◌≡◌, ℕ, true, List, sym, subst, arith}
-use Rattle.std.proofs.lemmas.Bool.Decides.{nat_tests}
-use Rattle.std.proofs.lemmas.List.Elements.{All-contains_itself, All-map, All-nil, All-weaker}
+use Rattle.std.proofs.Common.{◌≡◌, ℕ, List}
+use Rattle.std.proofs.lemmas.List.Elements.{All-contains_itself, All-weaker}
 use Rattle.std.specs.Prelude.{All, Contains}
-use Rattle.std.specs.List.{flat_map}
-use Rattle.attr_sets.specs.Attributes.{Attributes, below, difference, only, IsEmpty, IsSubset}
+use Rattle.attr_sets.specs.Attributes.{Attributes, below, IsEmpty, IsSubset}
 use Rattle.attr_sets.specs.declared.set.AttrSet.{AttrSet}
 use Rattle.dep_model.proofs.DepLemmas.{dependencies_all-from}
-use Rattle.dep_model.specs.Dependencies.{Dependency, fd, mvd, IsWithin}
+use Rattle.dep_model.specs.Dependencies.{IsWithin}
 use Rattle.dep_model.specs.Plans.{IsPlan, schemes_of}
-use Rattle.dep_model.specs.Projections.{members_below}
 use Rattle.schema_model.specs.Schemas.{deps_of, nullable_of, theory_of, width_of}
 use Rattle.schema_model.specs.Schemas.{Schema}
-use Rattle.min_cover.proofs.CoverLemmas.{fixed_is_minimal, thinned_all}
-use Rattle.min_cover.proofs.ListLemmas.{All-flat_map-from, AllZip-to}
-use Rattle.min_cover.proofs.MemberLemmas.{members_are}
-use Rattle.min_cover.specs.Covers.{IsFixedCover}
-use Rattle.min_cover.specs.Members.{members_of, IsLeftReducedDependency}
+use Rattle.min_cover.proofs.CoverLemmas.{fixed_is_minimal}
+use Rattle.min_cover.specs.Covers.{IsMinimalCover}
 use Rattle.dep_model.specs.declared.form.Form.{Form}
 use Rattle.dep_model.specs.declared.form.Form.TheVariants.{Third, Bcnf, Fourth}
 use Rattle.split_forms.proofs.WalkLemmas.{reached_plan}
-use Rattle.synthesis_3nf.proofs.CompleteLemmas.{IsSynthesized, whole}
+use Rattle.synthesis_3nf.proofs.WithinLemmas.{cover_within}
+use Rattle.synthesis_3nf.proofs.CompleteLemmas.{IsSynthesized, cover_groups, whole}
+use Rattle.synthesis_3nf.proofs.ThirdLemmas.{cover_rules}
+use Rattle.synthesis_3nf.specs.Groups.{schemes_of_groups}
 use Rattle.desk_designs.specs.Decompositions.{IsPlanInForm, IsSplitInForm}
 use Rattle.desk_designs.specs.Synthesis.{IsThirdFormPlan}
 use Rattle.plan_laws.proofs.PassingLaws.{plan_all}
@@ -36,28 +33,6 @@ split_is_plan s form plan other is =
       not_empty = plan_all (λ (x : Attributes). IsEmpty x → ⊥) is.split.all plan is.split.kept all.not_empty;
       covers = is.lossless.covers;
     }
-
--- ---- the members of the fixed cover lie within the universe
-member_within : (n : ℕ) (d : Dependency) → IsWithin (below n) d → All (IsWithin (below n)) (members_of n d)
-member_within n (fd x y) within =
-    All-map (IsWithin (below n)) (λ (a : ℕ). fd x (only a)) (members_below n (difference y x))
-    (All-weaker (λ (a : ℕ). difference y x a ≡ true) (λ (a : ℕ). IsWithin (below n) (fd x (only a)))
-    (λ a member. (within.0, λ (k : ℕ) m. let inside = within.1 k in grind (arith, nat_tests, m, member, inside)))
-    (members_below n (difference y x)) (members_are n (difference y x)))
-member_within n (mvd x y) within = All-nil (IsWithin (below n))
-
-shortened_within : (n : ℕ) (ds : List Dependency) (d e : Dependency) → IsLeftReducedDependency n ds d e
-    → IsWithin (below n) d → IsWithin (below n) e
-shortened_within n ds d e (short, is, reduced) within =
-    subst (IsWithin (below n)) (sym is) ((λ k m. within.0 k (reduced.within k m)), within.1)
-
-cover_within : (n : ℕ) (ds cover : List Dependency) → All (IsWithin (below n)) ds → IsFixedCover n ds cover
-    → All (IsWithin (below n)) cover
-cover_within n ds cover within is =
-    thinned_all n (IsWithin (below n)) _ is.members cover is.thinned (All-nil (IsWithin (below n)))
-    (AllZip-to (IsLeftReducedDependency n ds) (IsWithin (below n)) (IsWithin (below n)) (flat_map (members_of n) ds)
-    is.members (shortened_within n ds) is.shortened
-    (All-flat_map-from (IsWithin (below n)) (members_of n) ds (λ k d l. member_within n _ (within k d l))))
 
 -- ---- grouped plans
 third_is_plan : (s : Schema) (plan : List AttrSet) → IsThirdFormPlan s plan → IsPlan (width_of s) (schemes_of plan)
@@ -80,11 +55,17 @@ third_is_plan s plan is = record {
     within : All (IsWithin (below n)) (theory_of s)
     within = dependencies_all-from (IsWithin (below n)) (deps_of s) s.valid.deps_within
 
+    minimal : IsMinimalCover n (theory_of s) is.grouped.cover
+    minimal = fixed_is_minimal n (theory_of s) is.grouped.cover within is.grouped.steps.fixed
+
+    low : All (IsWithin (below n)) is.grouped.cover
+    low = cover_within n (theory_of s) is.grouped.cover within is.grouped.steps.fixed
+
     made : IsSynthesized n (theory_of s) is.grouped.cover (schemes_of all)
-    made = whole n (theory_of s) is.grouped.cover s.valid.names_within_limit s.valid.names_not_empty
-        (fixed_is_minimal n (theory_of s) is.grouped.cover within is.grouped.steps.fixed)
-        (cover_within n (theory_of s) is.grouped.cover within is.grouped.steps.fixed) (nullable_of s) (schemes_of all)
-        is.grouped.steps.completed
+    made = whole n (theory_of s) is.grouped.cover s.valid.names_not_empty
+        (cover_rules n (theory_of s) is.grouped.cover minimal low) (schemes_of_groups is.grouped.cover)
+        (cover_groups n (theory_of s) is.grouped.cover s.valid.names_within_limit minimal low) (nullable_of s)
+        (schemes_of all) is.grouped.steps.completed
 
 pub form_is_plan : (s : Schema) (form : Form) (plan : List AttrSet) → IsPlanInForm s form plan
     → IsPlan (width_of s) (schemes_of plan)

@@ -18,3 +18,4 @@ pub mod PlacedAnswers
 pub mod FolderAnswers
 pub mod SampleAnswers
 pub mod ReasonAnswers
+mod FewestPlans

@@ -11,6 +11,7 @@
 
 mod answering;
 mod designed;
+mod fewest;
 mod passing;
 mod rejoined;
 mod unique;
@@ -25,6 +26,7 @@ pub use designed::{
     given_names_stay_apart, migrated_tables_are_designed, migrated_tables_have_different_names,
     migrated_tables_obey_the_design, tables_of_a_form_are_designed,
 };
+pub use fewest::{fewest_plans_are_small, fewest_plans_pass};
 pub use passing::{
     functional_plans_are_small, plans_in_form_pass, split_plans_are_narrow, synthesized_plans_keep,
     wide_splits_pass,

@@ -1,5 +1,5 @@
 -- A minimal cover grouped by left side: each scheme is that of a left side, and each member lies within one.
-use Rattle.std.proofs.Common.{◌≡◌, ℕ, ◌≤◌, Bool, true, false, ◌&&◌, if◌then◌else◌, List, [], ◌∷◌, ◌++◌, refl, sym, subst, ap, ◌∙◌, ⊎_elim, arith, append_assoc}
+use Rattle.std.proofs.Common.{◌≡◌, ℕ, ◌≤◌, Bool, true, false, ◌&&◌, if◌then◌else◌, List, [], ◌∷◌, ◌++◌, refl, sym, subst, ap, ◌∙◌, ◌⊎◌, inl, inr, ⊎_elim, arith, append_assoc}
 use Rattle.std.specs.Prelude.{All, Contains}
 use Rattle.std.specs.List.{list_any}
 use Rattle.std.proofs.lemmas.Bool.{cases_Bool, true≢false, eqb-true, eq-eqb, lt-ltb, ltb-true, or_cases, or_left, or_right, and_parts, and_from}
@@ -13,7 +13,7 @@ use Rattle.dep_model.proofs.ListLemmas.{Contains-head, Contains-later, Contains-
 use Rattle.min_cover.specs.Covers.{IsSingle}
 use Rattle.plans.proofs.ListLemmas.{any_from, any_some}
 use Rattle.synthesis_3nf.specs.Groups.{left_sides_after, group_scheme, schemes_of_groups}
-use Rattle.synthesis_3nf.proofs.GroupSchemes.{IsGroupScheme, AreHeld}
+use Rattle.synthesis_3nf.proofs.GroupSchemes.{IsGroupScheme, LiesIn, AreHeld}
 
 -- ---- left sides
 -- a left side that stands among those before is passed over, and another one is added
@@ -26,7 +26,7 @@ pub left_added : (earlier : List Attributes) (d : Dependency) (later : List Depe
 left_added earlier d later new = ap (λ (b : Bool). if b then left_sides_after earlier later else (left_of d ∷ left_sides_after (earlier ++ left_of d ∷ []) later)) new
 
 -- each is that of a member
-left_found : (earlier : List Attributes) (ds : List Dependency) (x : Attributes) → Contains (left_sides_after earlier ds) x → (d : Dependency) × Contains ds d × (left_of d ≡ x)
+pub left_found : (earlier : List Attributes) (ds : List Dependency) (x : Attributes) → Contains (left_sides_after earlier ds) x → (d : Dependency) × Contains ds d × (left_of d ≡ x)
 left_found earlier [] x has = absurd (omega (arith, has.1))
 left_found earlier (d ∷ later) x has =
     ⊎_elim
@@ -97,6 +97,25 @@ module _ (n : ℕ) (within_limit : n ≤ MOST_ATTRIBUTES) (cover : List Dependen
       or_right (x a) (list_any (λ e. is_same x (left_of e) && right_of e a) cover)
       (any_from (λ e. is_same x (left_of e) && right_of e a) cover d has (and_from (is_same x (left_of d)) (right_of d a) same right))
 
+  -- an attribute of the scheme of a set is in the set, or a member gives it
+  pub scheme_attribute : (x : Attributes) → IsSubset x (below n) → (a : ℕ) → group_scheme cover x a ≡ true → (x a ≡ true) ⊎ Contains cover (fd x (only a))
+  scheme_attribute x x_in a in_scheme =
+      ⊎_elim
+      (λ own. inl own)
+      (λ other.
+      let found = giver x a other in
+      inr (member_is x a found.0 found.1 (sym (same_left x (left_of found.0) x_in (left_in found.0 found.1) found.2)) found.3))
+      (or_cases (x a) (list_any (λ e. is_same x (left_of e) && right_of e a) cover) in_scheme)
+
+  -- a member lies within the scheme of its left side
+  pub member_lies : (d : Dependency) → Contains cover d → LiesIn d (group_scheme cover (left_of d))
+  member_lies d has k m =
+      let x = left_of d in
+      ⊎_elim
+      (λ own. or_left (x k) (list_any (λ e. is_same x (left_of e) && right_of e k) cover) own)
+      (λ right. given x k d has (is_same-from x x refl) right)
+      (or_cases (left_of d k) (right_of d k) m)
+
   group_is : (x : Attributes) (d : Dependency) → Contains cover d → left_of d ≡ x → IsGroupScheme cover x (group_scheme cover x) × IsSubset (group_scheme cover x) (below n)
   group_is x d has left =
       let x_in : IsSubset x (below n) = subst (λ (y : Attributes). IsSubset y (below n)) left (left_in d has) in
@@ -106,10 +125,8 @@ module _ (n : ℕ) (within_limit : n ≤ MOST_ATTRIBUTES) (cover : List Dependen
           left = λ k m. or_left (x k) (list_any (λ e. is_same x (left_of e) && right_of e k) cover) m;
           member = λ a in_scheme lacks. ⊎_elim
               (λ own. absurd (true≢false (sym own ∙ lacks)))
-              (λ other.
-              let found = giver x a other in
-              member_is x a found.0 found.1 (sym (same_left x (left_of found.0) x_in (left_in found.0 found.1) found.2)) found.3)
-              (or_cases (x a) (list_any (λ e. is_same x (left_of e) && right_of e a) cover) in_scheme);
+              (λ other. other)
+              (scheme_attribute x x_in a in_scheme);
           first = one.1;
           not_empty = (member_is x one.1 d has left right, given x one.1 d has (is_same-from x (left_of d) (sym left)) right);
         },
@@ -128,17 +145,17 @@ module _ (n : ℕ) (within_limit : n ≤ MOST_ATTRIBUTES) (cover : List Dependen
       let is = group_is named.0 found.0 found.1 found.2 in
       (named.0, subst (λ (s : Attributes). IsGroupScheme cover named.0 s) named.2 is.0, subst (λ (s : Attributes). IsSubset s (below n)) named.2 is.1)
 
-  pub groups_hold : AreHeld cover (schemes_of_groups cover)
-  groups_hold d has =
+  -- the left side of a member is among the left sides
+  pub left_among : (d : Dependency) → Contains cover d → Contains (left_sides_after [] cover) (left_of d)
+  left_among d has =
       let found = left_holds [] cover d has in
-      let x = found.0 in
-      let owner = left_found [] cover x found.1 in
-      let x_in : IsSubset x (below n) = subst (λ (y : Attributes). IsSubset y (below n)) owner.2 (left_in owner.0 owner.1) in
-      let same : x ≡ left_of d = same_left x (left_of d) x_in (left_in d has) found.2 in (
-        group_scheme cover x,
-        Contains-map (group_scheme cover) (left_sides_after [] cover) x found.1,
-        λ k m. ⊎_elim
-            (λ own. or_left (x k) (list_any (λ e. is_same x (left_of e) && right_of e k) cover) (subst (λ (y : Attributes). y k ≡ true) (sym same) own))
-            (λ right. given x k d has found.2 right)
-            (or_cases (left_of d k) (right_of d k) m),
-      )
+      let owner = left_found [] cover found.0 found.1 in
+      let x_in : IsSubset found.0 (below n) = subst (λ (y : Attributes). IsSubset y (below n)) owner.2 (left_in owner.0 owner.1) in
+      subst (λ (y : Attributes). Contains (left_sides_after [] cover) y) (same_left found.0 (left_of d) x_in (left_in d has) found.2) found.1
+
+  pub groups_hold : AreHeld cover (schemes_of_groups cover)
+  groups_hold d has = (
+    group_scheme cover (left_of d),
+    Contains-map (group_scheme cover) (left_sides_after [] cover) (left_of d) (left_among d has),
+    member_lies d has,
+  )

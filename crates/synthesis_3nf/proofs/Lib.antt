@@ -4,4 +4,5 @@ pub mod ThirdLemmas
 pub mod LosslessLemmas
 pub mod CompleteLemmas
 pub mod MadeLemmas
+pub mod WithinLemmas
 mod LoopLemmas

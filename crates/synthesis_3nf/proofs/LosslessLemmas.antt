@@ -16,10 +16,10 @@ use Rattle.dep_model.proofs.ListLemmas.{Any-from}
 use Rattle.dep_model.proofs.JoinLemmas.{in_join-to, projected_tuple_agrees}
 use Rattle.dep_model.proofs.TwoRowLemmas.{Contains-two_first, Contains-two_second, Contains-two_cases, AgreeOn-refl, AgreeOn-sym, AgreeOn-within, AgreeOn-trans}
 use Rattle.dep_model.proofs.PreservationLemmas.{fd-obeys, fd-obeyed}
-use Rattle.min_cover.specs.Covers.{IsMinimalCover}
+use Rattle.min_cover.specs.Covers.{HaveSameLegal}
 use Rattle.synthesis_3nf.proofs.GroupSchemes.{AreHeld}
 
-module _ (n : ℕ) (ds cover : List Dependency) (minimal : IsMinimalCover n ds cover) (functional : All (λ d. is_fd d ≡ true) cover) (plan : List Attributes) (held : AreHeld cover plan) where
+module _ (n : ℕ) (ds cover : List Dependency) (same : HaveSameLegal n cover (functional_part ds)) (functional : All (λ d. is_fd d ≡ true) cover) (plan : List Attributes) (held : AreHeld cover plan) where
   -- a tuple of the join and one of the relation that agree on a left side agree on its right side
   pair_agrees : (r : Relation) (t u : Tuple) → IsLegal n cover r → InJoin n plan (projections plan r) t → Contains r u
       → (d : Dependency) → Contains cover d → AgreeOn (left_of d) u t → AgreeOn (right_of d) u t
@@ -62,18 +62,18 @@ module _ (n : ℕ) (ds cover : List Dependency) (minimal : IsMinimalCover n ds c
   lossless covers scheme has determines = record {
     covers = covers;
     gains_none = λ r legal t joined.
-        let legal_cover : IsLegal n cover r = (minimal.same_legal r).1 (functional_legal-weaker n ds r legal) in
+        let legal_cover : IsLegal n cover r = (same r).1 (functional_legal-weaker n ds r legal) in
         let found = projected_tuple_agrees r t scheme (in_join-to n plan r t joined scheme has) in
         let u = found.0 in
         let pair = u ∷ t ∷ [] in
-        let agree : AgreeOn (below n) u t = determines pair ((minimal.same_legal pair).0 (pair_legal r t u legal_cover joined found.1)) u t (Contains-two_first u t) (Contains-two_second u t) found.2 in
+        let agree : AgreeOn (below n) u t = determines pair ((same pair).0 (pair_legal r t u legal_cover joined found.1)) u t (Contains-two_first u t) (Contains-two_second u t) found.2 in
         let u_long : length u ≡ n = All-contains (λ (v : Tuple). length v ≡ n) r u legal.over found.1 in
         let same : u ≡ t = ext_get_or [] u t (u_long ∙ sym joined.over) (λ k low. agree k (lt-ltb k n (subst (λ (m : ℕ). k < m) u_long low))) in
         subst (λ (v : Tuple). Contains r v) same found.1;
   }
 
   pub keeps : KeepsDependencies n ds plan
-  keeps r over kept = (minimal.same_legal r).0 (record {
+  keeps r over kept = (same r).0 (record {
     over = over;
     obeys = All-weaker (Contains cover) (λ (d : Dependency). Obeys n d r) (λ d has. member d has (All-contains (λ (e : Dependency). is_fd e ≡ true) cover d functional has)) cover (All-contains_itself cover);
   })
@@ -82,5 +82,5 @@ module _ (n : ℕ) (ds cover : List Dependency) (minimal : IsMinimalCover n ds c
       member (fd x y) has is =
           let keeper = held (fd x y) has in
           kept x y (Any-from (λ (scheme : Attributes). IsSubset (union x y) scheme) plan keeper.0 keeper.1 keeper.2)
-          (λ s legal. All-contains (λ (e : Dependency). Obeys n e s) cover (fd x y) ((minimal.same_legal s).1 legal).obeys has)
+          (λ s legal. All-contains (λ (e : Dependency). Obeys n e s) cover (fd x y) ((same s).1 legal).obeys has)
       member (mvd x y) has is = absurd (true≢false (sym is))

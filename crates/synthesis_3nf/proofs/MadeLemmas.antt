@@ -18,7 +18,9 @@ use Rattle.min_cover.specs.Covers.{IsMinimalCover}
 use Rattle.synthesis_3nf.specs.Groups.{schemes_of_groups}
 use Rattle.synthesis_3nf.specs.GroupedPlans.{IsWithKey}
 use Rattle.synthesis_3nf.proofs.GroupLemmas.{groups_are}
-use Rattle.synthesis_3nf.proofs.CompleteLemmas.{IsSynthesized, whole}
+use Rattle.synthesis_3nf.proofs.GroupSchemes.{AreRules}
+use Rattle.synthesis_3nf.proofs.ThirdLemmas.{cover_rules}
+use Rattle.synthesis_3nf.proofs.CompleteLemmas.{IsSynthesized, cover_groups, whole}
 
 -- what is known of a schema and its cover
 pub record IsCovered (s : Theory) (cover : List Dep) : Type 0 where
@@ -42,9 +44,14 @@ groups_within s cover groups is are =
     (subst (λ (xs : List Attributes). Contains xs (attributes g)) are (Contains-map attributes groups g has))).2)
     groups (All-contains_itself groups)
 
+pub covered_rules : (s : Theory) (cover : List Dep) → IsCovered s cover → AreRules (width_of s) (theory_of s) (dependencies_of cover)
+covered_rules s cover is = cover_rules (width_of s) (theory_of s) (dependencies_of cover) is.minimal (members_within s cover is)
+
 pub synthesized : (s : Theory) (nullable : Attributes) (cover : List Dep) (all : List AttrSet) → IsCovered s cover
     → IsWithKey (width_of s) (theory_of s) nullable (schemes_of_groups (dependencies_of cover)) (schemes_of all)
     → IsSynthesized (width_of s) (theory_of s) (dependencies_of cover) (schemes_of all)
 synthesized s nullable cover all is completed =
-    whole (width_of s) (theory_of s) (dependencies_of cover) (attributes_within_limit s) (attributes_not_empty s) is.minimal (members_within s cover is)
+    whole (width_of s) (theory_of s) (dependencies_of cover) (attributes_not_empty s) (covered_rules s cover is)
+    (schemes_of_groups (dependencies_of cover))
+    (cover_groups (width_of s) (theory_of s) (dependencies_of cover) (attributes_within_limit s) is.minimal (members_within s cover is))
     nullable (schemes_of all) completed

@@ -13,11 +13,11 @@ use Rattle.dep_model.specs.Keys.{IsSuperkey, IsKey}
 use Rattle.dep_model.specs.Forms.{IsThird}
 use Rattle.dep_model.proofs.KeyLemmas.{fd_on-to, superkey-from, scheme_superkey}
 use Rattle.dep_model.proofs.RuleLemmas.{reflexivity_obeyed, transitivity_obeyed}
-use Rattle.fd_closure.proofs.ClosureLemmas.{fd_each-to, fd_each-from}
+use Rattle.fd_closure.proofs.ClosureLemmas.{fd_each-from}
 use Rattle.dep_model.proofs.TwoTupleLemmas.{two_tuples_fd-to, two_tuples_fd-from}
-use Rattle.fd_closure.proofs.ClosedSets.{closure_set, all_functional}
-use Rattle.min_cover.specs.Covers.{IsMinimalCover}
-use Rattle.synthesis_3nf.proofs.GroupSchemes.{IsGroupScheme}
+use Rattle.fd_closure.proofs.ClosedSets.{closure_set}
+use Rattle.min_cover.specs.Covers.{IsMinimalCover, IsSingle}
+use Rattle.synthesis_3nf.proofs.GroupSchemes.{AreRules, IsGroupScheme}
 
 -- ---- lists of functional dependencies
 
@@ -26,9 +26,8 @@ functional_same [] each = refl
 functional_same (fd x y ∷ ds) each = ap (λ (rest : List Dependency). fd x y ∷ rest) (functional_same ds (All-tail (λ (d : Dependency). is_fd d ≡ true) (fd x y) ds each))
 functional_same (mvd x y ∷ ds) each = absurd (true≢false (sym (All-head (λ (d : Dependency). is_fd d ≡ true) (mvd x y) ds each)))
 
--- ---- a scheme of a group
--- a member and the others
-contains_split : (cover : List Dependency) (d : Dependency) → Contains cover d → (before : List Dependency) × (after : List Dependency) × (cover ≡ before ++ d ∷ after)
+-- ---- a member and the others
+pub contains_split : (cover : List Dependency) (d : Dependency) → Contains cover d → (before : List Dependency) × (after : List Dependency) × (cover ≡ before ++ d ∷ after)
 contains_split [] d has = absurd (All-contains (λ (e : Dependency). ⊥) [] d (All-nil (λ (e : Dependency). ⊥)) has)
 contains_split (e ∷ cover) d has =
     ⊎_elim
@@ -40,7 +39,7 @@ contains_split (e ∷ cover) d has =
     (Contains-append_cases (e ∷ []) cover d has)
 
 -- the members beside one
-Contains-insert_cases : (before after : List Dependency) (d e : Dependency) → Contains (before ++ d ∷ after) e → Contains (before ++ after) e ⊎ (d ≡ e)
+pub Contains-insert_cases : (before after : List Dependency) (d e : Dependency) → Contains (before ++ d ∷ after) e → Contains (before ++ after) e ⊎ (d ≡ e)
 Contains-insert_cases before after d e has =
     ⊎_elim
     (λ near. inl (Contains-append_left before after e near))
@@ -71,7 +70,7 @@ pub fd_within : (n : ℕ) (ds : List Dependency) (x y : Attributes) → IsSubset
 fd_within n ds x y inside r legal = reflexivity_obeyed x y r inside
 
 -- what holds of each member holds of each beside one
-All-without : (P : Dependency → Type 0) (before after : List Dependency) (d : Dependency) → All P (before ++ d ∷ after) → All P (before ++ after)
+pub All-without : (P : Dependency → Type 0) (before after : List Dependency) (d : Dependency) → All P (before ++ d ∷ after) → All P (before ++ after)
 All-without P before after d each =
     All-weaker (Contains (before ++ after)) P (λ e has. All-contains P (before ++ d ∷ after) e each (part_of before after d e has)) (before ++ after) (All-contains_itself (before ++ after))
 
@@ -82,44 +81,98 @@ whole_all P before after d one each =
     (λ e has. ⊎_elim (λ other. All-contains P (before ++ after) e each other) (λ same. subst P same one) (Contains-insert_cases before after d e has))
     (before ++ d ∷ after) (All-contains_itself (before ++ d ∷ after))
 
-module _ (n : ℕ) (ds cover : List Dependency) (minimal : IsMinimalCover n ds cover) (within : All (IsWithin (below n)) cover) (functional : functional_part cover ≡ cover) where
-  -- what the cover implies, the functional part implies, and the other way round
-  pub cover_implied : (d : Dependency) → Implies n cover d → Implies n (functional_part ds) d
-  cover_implied d implied r legal = implied r ((minimal.same_legal r).1 legal)
+-- ---- a list that says what the functional part says
+module _ (n : ℕ) (ds rules : List Dependency) (are : AreRules n ds rules) where
+  pub rules_same : functional_part rules ≡ rules
+  rules_same = functional_same rules are.functional
 
-  pub part_implied : (d : Dependency) → Implies n (functional_part ds) d → Implies n cover d
-  part_implied d implied r legal = implied r ((minimal.same_legal r).0 legal)
+  -- what it implies, the functional part implies, and the other way round
+  pub rules_implied : (d : Dependency) → Implies n rules d → Implies n (functional_part ds) d
+  rules_implied d implied r legal = implied r ((are.same_legal r).1 legal)
 
+  pub implied_by_rules : (d : Dependency) → Implies n (functional_part ds) d → Implies n rules d
+  implied_by_rules d implied r legal = implied r ((are.same_legal r).0 legal)
+
+  -- where a member follows from no others, and its left side determines a scheme: what determines the attribute that the
+  -- member gives determines the scheme, if the others lead from the left side to it
+  pub superkey_by_others : (x scheme v : Attributes) (b : ℕ) (before after : List Dependency) → IsSubset scheme (below n) → IsSubset x scheme → IsSubset v scheme → scheme b ≡ true
+      → Implies n (functional_part ds) (fd x scheme) → rules ≡ before ++ fd x (only b) ∷ after → (Implies n (before ++ after) (fd x (only b)) → ⊥)
+      → Implies n (before ++ after) (fd x v) → Implies n (functional_part ds) (fd v (only b)) → IsSuperkey n (functional_part ds) scheme v
+  superkey_by_others x scheme v b before after scheme_in x_part v_part in_scheme determines parts needed to_rest gives =
+      let d = fd x (only b) in
+      let others = before ++ after in
+      let others_in = All-without (λ (e : Dependency). IsWithin (below n) e) before after d (subst (λ (es : List Dependency). All (IsWithin (below n)) es) parts are.within) in
+      let others_fd = All-without (λ (e : Dependency). is_fd e ≡ true) before after d (subst (λ (es : List Dependency). All (λ e. is_fd e ≡ true) es) parts are.functional) in
+      let v_in : IsSubset v (below n) = λ (k : ℕ) m. scheme_in k (v_part k m) in
+      let x_in : IsSubset x (below n) = λ (k : ℕ) m. scheme_in k (x_part k m) in
+      let b_in : IsSubset (only b) (below n) = λ (k : ℕ) e. subst (λ (j : ℕ). below n j ≡ true) (sym (eqb-true k b e)) (scheme_in b in_scheme) in
+      let found = closure_set n others v others_in (functional_same others others_fd) v_in in
+      let c = found.0 in
+      let closure = found.1 in
+      ⊎_elim
+      (λ reaches. absurd (needed (fd_trans n others x v (only b) to_rest ((closure.exact b).0 reaches).1)))
+      (λ stops. ⊎_elim
+      (λ gap.
+      let legal : IsLegal n rules (two_tuples n c) = subst (λ (es : List Dependency). IsLegal n es (two_tuples n c)) (sym parts) (record {
+        over = closure.legal.over;
+        obeys = whole_all (λ (e : Dependency). Obeys n e (two_tuples n c)) before after d
+            (two_tuples_fd-from n c x (only b) x_in b_in (λ all. absurd (true≢false (sym (all gap.0 (grind (arith, gap.2))) ∙ grind (arith, gap.2)))))
+            closure.legal.obeys;
+      }) in
+      let held = two_tuples_fd-to n c v (only b) v_in b_in (implied_by_rules (fd v (only b)) gives (two_tuples n c) legal) closure.holds in
+      absurd (true≢false (sym (held b (grind (arith, nat_tests))) ∙ stops)))
+      (λ none.
+      let v_to_x = fd_each-from n others v x (λ (k : ℕ) m. ((closure.exact k).0 (grind (arith, none k (ltb-true k n (x_in k m)), m))).1) in
+      superkey-from n (functional_part ds) scheme v v_part
+      (fd_trans n (functional_part ds) v x scheme
+      (λ r legal. v_to_x r (record { over = legal.over; obeys = All-without (λ (e : Dependency). Obeys n e r) before after d (subst (λ (es : List Dependency). All (λ e. Obeys n e r) es) parts ((are.same_legal r).1 legal).obeys) }))
+      determines))
+      (tell_member n (difference x c)))
+      (cases_Bool (c b))
+
+-- a minimal cover is such a list
+pub cover_rules : (n : ℕ) (ds cover : List Dependency) → IsMinimalCover n ds cover → All (IsWithin (below n)) cover → AreRules n ds cover
+cover_rules n ds cover minimal within = record {
+  same_legal = minimal.same_legal;
+  functional = All-weaker IsSingle (λ (d : Dependency). is_fd d ≡ true) (λ d one. subst (λ (e : Dependency). is_fd e ≡ true) (sym one.2) refl) cover minimal.single;
+  within = within;
+}
+
+-- ---- a minimal cover
+module _ (n : ℕ) (ds cover : List Dependency) (minimal : IsMinimalCover n ds cover) (within : All (IsWithin (below n)) cover) where
+  rules : AreRules n ds cover
+  rules = cover_rules n ds cover minimal within
+
+  -- what a member says
+  pub member_holds : (d : Dependency) → Contains cover d → Implies n (functional_part ds) d
+  member_holds d has = rules_implied n ds cover rules d (member_implied n cover d has)
+
+  -- a left side that determines a scheme which has it: none of its attributes can be left out
+  pub left_is_key : (x scheme : Attributes) (a : ℕ) → IsSubset x scheme → Implies n (functional_part ds) (fd x scheme) → Contains cover (fd x (only a)) → IsKey n (functional_part ds) scheme x
+  left_is_key x scheme a inside determines has = record {
+    superkey = superkey-from n (functional_part ds) scheme x inside determines;
+    minimal = λ j part superkey k member. ⊎_elim
+        (λ holds. holds)
+        (λ lacks.
+        let whole = fd_on-to n (functional_part ds) scheme j scheme superkey in
+        let to_left = fd_trans n (functional_part ds) j scheme x whole (fd_within n (functional_part ds) scheme x inside) in
+        absurd (minimal.short (fd x (only a)) has k member
+        (fd_trans n (functional_part ds) (difference x (only k)) j (only a)
+        (fd_within n (functional_part ds) (difference x (only k)) j (λ (i : ℕ) h. grind (arith, nat_tests, h, part i, lacks)))
+        (fd_trans n (functional_part ds) j x (only a) to_left (member_holds (fd x (only a)) has)))))
+        (cases_Bool (j k));
+  }
+
+  -- ---- a scheme of a group
   module _ (x scheme : Attributes) (scheme_in : IsSubset scheme (below n)) (group : IsGroupScheme cover x scheme) where
-    x_in : IsSubset x (below n)
-    x_in k m = scheme_in k (group.left k m)
-
-    only_in : (b : ℕ) → scheme b ≡ true → IsSubset (only b) (below n)
-    only_in b in_scheme k e = subst (λ (j : ℕ). below n j ≡ true) (sym (eqb-true k b e)) (scheme_in b in_scheme)
-
     -- the left side determines the scheme
     left_determines : Implies n (functional_part ds) (fd x scheme)
     left_determines =
         fd_each-from n (functional_part ds) x scheme
         (λ (a : ℕ) in_scheme. ⊎_elim
         (λ own. fd_within n (functional_part ds) x (only a) (λ (k : ℕ) e. grind (arith, nat_tests, own, e)))
-        (λ other. cover_implied (fd x (only a)) (member_implied n cover (fd x (only a)) (group.member a in_scheme other)))
+        (λ other. member_holds (fd x (only a)) (group.member a in_scheme other))
         (cases_Bool (x a)))
-
-    -- and none of its attributes can be left out
-    left_is_key : IsKey n (functional_part ds) scheme x
-    left_is_key = record {
-      superkey = superkey-from n (functional_part ds) scheme x group.left left_determines;
-      minimal = λ j inside superkey k member. ⊎_elim
-          (λ has. has)
-          (λ lacks.
-          let a = group.first in
-          let whole = fd_each-to n (functional_part ds) j scheme (fd_on-to n (functional_part ds) scheme j scheme superkey) a group.not_empty.1 in
-          absurd (minimal.short (fd x (only a)) group.not_empty.0 k member
-          (fd_trans n (functional_part ds) (difference x (only k)) j (only a)
-          (fd_within n (functional_part ds) (difference x (only k)) j (λ (i : ℕ) h. grind (arith, nat_tests, h, inside i, lacks))) whole)))
-          (cases_Bool (j k));
-    }
 
     -- without the member of an attribute outside a set, the left side still determines the set
     left_to_rest : (v : Attributes) → IsSubset v scheme → {b : ℕ} → v b ≡ false → (before after : List Dependency) → cover ≡ before ++ fd x (only b) ∷ after → Implies n (before ++ after) (fd x v)
@@ -139,47 +192,16 @@ module _ (n : ℕ) (ds cover : List Dependency) (minimal : IsMinimalCover n ds c
     -- an attribute that members determine: what determines it on the scheme is a superkey
     right_third : (v : Attributes) (b : ℕ) → IsSubset v scheme → scheme b ≡ true → x b ≡ false → v b ≡ false → Implies n (functional_part ds) (fd v (only b)) → IsSuperkey n (functional_part ds) scheme v
     right_third v b inside in_scheme outside lacks determines =
-        let d = fd x (only b) in
-        let split = contains_split cover d (group.member b in_scheme outside) in
-        by_the_others v b inside in_scheme outside lacks determines split.0 split.1 split.2
-      where
-        by_the_others : (v : Attributes) (b : ℕ) → IsSubset v scheme → scheme b ≡ true → x b ≡ false → v b ≡ false → Implies n (functional_part ds) (fd v (only b)) → (before after : List Dependency) → cover ≡ before ++ fd x (only b) ∷ after → IsSuperkey n (functional_part ds) scheme v
-        by_the_others v b inside in_scheme outside lacks determines before after parts =
-            let d = fd x (only b) in
-            let others = before ++ after in
-            let others_in = All-without (λ (e : Dependency). IsWithin (below n) e) before after d (subst (λ (es : List Dependency). All (IsWithin (below n)) es) parts within) in
-            let others_fd = All-without (λ (e : Dependency). is_fd e ≡ true) before after d (subst (λ (es : List Dependency). All (λ e. is_fd e ≡ true) es) parts (all_functional cover functional)) in
-            let v_in : IsSubset v (below n) = λ (k : ℕ) m. scheme_in k (inside k m) in
-            let found = closure_set n others v others_in (functional_same others others_fd) v_in in
-            let c = found.0 in
-            let closure = found.1 in
-            ⊎_elim
-            (λ reaches. absurd (minimal.needed before after d parts (fd_trans n others x v (only b) (left_to_rest v inside lacks before after parts) ((closure.exact b).0 reaches).1)))
-            (λ stops. ⊎_elim
-            (λ gap.
-            let legal : IsLegal n cover (two_tuples n c) = subst (λ (es : List Dependency). IsLegal n es (two_tuples n c)) (sym parts) (record {
-              over = closure.legal.over;
-              obeys = whole_all (λ (e : Dependency). Obeys n e (two_tuples n c)) before after d
-                  (two_tuples_fd-from n c x (only b) x_in (only_in b in_scheme) (λ all. absurd (true≢false (sym (all gap.0 (grind (arith, gap.2))) ∙ grind (arith, gap.2)))))
-                  closure.legal.obeys;
-            }) in
-            let held = two_tuples_fd-to n c v (only b) v_in (only_in b in_scheme) (part_implied (fd v (only b)) determines (two_tuples n c) legal) closure.holds in
-            absurd (true≢false (sym (held b (grind (arith, nat_tests))) ∙ stops)))
-            (λ none.
-            let v_to_x = fd_each-from n others v x (λ (k : ℕ) m. ((closure.exact k).0 (grind (arith, none k (ltb-true k n (x_in k m)), m))).1) in
-            superkey-from n (functional_part ds) scheme v inside
-            (fd_trans n (functional_part ds) v x scheme
-            (λ r legal. v_to_x r (record { over = legal.over; obeys = All-without (λ (e : Dependency). Obeys n e r) before after d (subst (λ (es : List Dependency). All (λ e. Obeys n e r) es) parts ((minimal.same_legal r).1 legal).obeys) }))
-            left_determines))
-            (tell_member n (difference x c)))
-            (cases_Bool (c b))
+        let split = contains_split cover (fd x (only b)) (group.member b in_scheme outside) in
+        superkey_by_others n ds cover rules x scheme v b split.0 split.1 scheme_in group.left inside in_scheme left_determines split.2
+        (minimal.needed split.0 split.1 (fd x (only b)) split.2) (left_to_rest v inside lacks split.0 split.1 split.2) determines
 
   -- the scheme of a group is in third normal form
   pub group_third : (x scheme : Attributes) → IsSubset scheme (below n) → IsGroupScheme cover x scheme → IsThird n ds scheme
   group_third x scheme scheme_in group v b on lacks =
       let in_scheme : scheme b ≡ true = on.within.1 b (grind (arith, nat_tests)) in
       ⊎_elim
-      (λ own. inr (x, left_is_key x scheme scheme_in group, own))
+      (λ own. inr (x, left_is_key x scheme group.first group.left (left_determines x scheme scheme_in group) group.not_empty.0, own))
       (λ other. inl (right_third x scheme scheme_in group v b on.within.0 in_scheme other lacks (fd_on-to n (functional_part ds) scheme v (only b) on)))
       (cases_Bool (x b))
 

@@ -13,7 +13,8 @@ use dep_model::{OutOfMemory, Theory};
 use fd_closure::is_functional_superkey;
 use primary_keys::functional_primary_key;
 
-// The schemes, with the primary key of the universe added last where none of them is a superkey of it.
+/// The schemes, with the primary key of the universe added last where none of them is a superkey of it, by the
+/// functional dependencies.
 pub fn with_key(
     theory: &Theory,
     nullable: AttrSet,

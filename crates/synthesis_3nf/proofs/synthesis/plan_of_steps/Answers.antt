@@ -4,18 +4,18 @@ use Rattle.std.proofs.Common.{◌≡◌, true, List, sym, subst, ap, ◌∙◌}
 use Rattle.std.specs.Prelude.{All, Contains}
 use Rattle.std.specs.List.{list_any}
 use Rattle.attr_sets.specs.declared.set.AttrSet.{AttrSet}
-use Rattle.attr_sets.specs.Attributes.{Attributes, below}
+use Rattle.attr_sets.specs.Attributes.{Attributes}
 use Rattle.dep_model.specs.declared.dep.Dep.{Dep}
 use Rattle.dep_model.specs.Theories.{Theory}
-use Rattle.dep_model.specs.Dependencies.{IsWithin}
 use Rattle.dep_model.specs.Deps.{dependencies_of}
 use Rattle.dep_model.specs.Plans.{IsPlan, schemes_of}
 use Rattle.dep_model.specs.Projections.{IsLossless}
 use Rattle.dep_model.specs.Theories.{width_of, theory_of}
 use Rattle.plans.specs.Containing.{lies_within, without_contained}
 use Rattle.synthesis_3nf.specs.GroupedPlans.{AreSynthesisSteps}
+use Rattle.synthesis_3nf.proofs.GroupSchemes.{AreRules}
 use Rattle.synthesis_3nf.proofs.CompleteLemmas.{IsSynthesized, are_plan, are_lossless, kept_third, kept_keeps}
-use Rattle.synthesis_3nf.proofs.MadeLemmas.{IsCovered, attributes_within_limit, attributes_not_empty, members_within, synthesized}
+use Rattle.synthesis_3nf.proofs.MadeLemmas.{IsCovered, attributes_not_empty, covered_rules, synthesized}
 use Rattle.synthesis_3nf.proofs.synthesis.plan_of_steps.Goals as goal
 
 -- what is known of the steps
@@ -25,8 +25,8 @@ record AreMade (s : Theory) (cover : List Dep) (all : List AttrSet) : Type 0 whe
   steps : AreSynthesisSteps (width_of s) (theory_of s) nullable (dependencies_of cover) (schemes_of all)
 
 module _ (s : Theory) (cover : List Dep) (all : List AttrSet) (made : AreMade s cover all) where
-  members : All (IsWithin (below (width_of s))) (dependencies_of cover)
-  members = members_within s cover made.covered
+  rules : AreRules (width_of s) (theory_of s) (dependencies_of cover)
+  rules = covered_rules s cover made.covered
 
   all_made : IsSynthesized (width_of s) (theory_of s) (dependencies_of cover) (schemes_of all)
   all_made = synthesized s made.nullable cover all made.covered made.steps.completed
@@ -40,7 +40,7 @@ new-requires c =
     let copied : c.in_ok-schemes.schemes.items ≡ steps.schemes.items = c.in_ok-schemes.ensures.items ∙ c.deref.ensures.value in
     record {
       plan = subst (λ (xs : List AttrSet). IsPlan (width_of s) (schemes_of xs)) (sym copied)
-          (are_plan _ _ _ (attributes_within_limit s) (attributes_not_empty s) made.covered.minimal (members _ _ _ made) _ (all_made _ _ _ made));
+          (are_plan _ _ _ (attributes_not_empty s) (rules _ _ _ made) _ (all_made _ _ _ made));
     }
 
 pub returns-clause-kept : goal.returns-clause-kept
@@ -68,7 +68,7 @@ returns-clause-lossless c =
     let copied = c.in_ok-schemes.ensures.items ∙ c.deref.ensures.value in
     c.drop_contained.ensures.lossless (theory_of s)
     (subst (λ (xs : List AttrSet). IsLossless (width_of s) (theory_of s) (schemes_of xs)) (sym (c.new.ensures.schemes ∙ copied))
-    (are_lossless _ _ _ (attributes_within_limit s) (attributes_not_empty s) made.covered.minimal (members _ _ _ made) _ (all_made _ _ _ made)))
+    (are_lossless _ _ _ (attributes_not_empty s) (rules _ _ _ made) _ (all_made _ _ _ made)))
 
 pub returns-clause-third : goal.returns-clause-third
 returns-clause-third c =
@@ -78,7 +78,7 @@ returns-clause-third c =
     record { covered = record { minimal = c.requires.minimal; within = c.requires.within }; nullable = c.requires.steps.0; steps = c.requires.steps.1 } in
     let copied = c.in_ok-schemes.ensures.items ∙ c.deref.ensures.value in
     let kept = c.drop_contained.result.schemes.items in
-    kept_third _ _ _ (attributes_within_limit s) (attributes_not_empty s) made.covered.minimal (members _ _ _ made) _ kept (all_made _ _ _ made)
+    kept_third _ _ _ (attributes_not_empty s) (rules _ _ _ made) _ kept (all_made _ _ _ made)
     (subst (λ (xs : List AttrSet). All (λ (k : AttrSet). Contains xs k) kept) (c.new.ensures.schemes ∙ copied) c.drop_contained.ensures.among)
 
 pub returns-clause-keeps : goal.returns-clause-keeps
@@ -89,5 +89,5 @@ returns-clause-keeps c =
     record { covered = record { minimal = c.requires.minimal; within = c.requires.within }; nullable = c.requires.steps.0; steps = c.requires.steps.1 } in
     let copied = c.in_ok-schemes.ensures.items ∙ c.deref.ensures.value in
     let kept = c.drop_contained.result.schemes.items in
-    kept_keeps _ _ _ (attributes_within_limit s) (attributes_not_empty s) made.covered.minimal (members _ _ _ made) _ kept (all_made _ _ _ made)
+    kept_keeps _ _ _ (attributes_not_empty s) (rules _ _ _ made) _ kept (all_made _ _ _ made)
     (subst (λ (xs : List AttrSet). All (λ (old : AttrSet). list_any (lies_within old) kept ≡ true) xs) (c.new.ensures.schemes ∙ copied) c.drop_contained.ensures.held)

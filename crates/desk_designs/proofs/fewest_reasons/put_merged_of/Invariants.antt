@@ -1,0 +1,12 @@
+-- What the loop of `put_merged_of` keeps, in terms of `merged_text`.
+use Rattle.std.proofs.Common.{◌≡◌, ◌++◌, map, take}
+use Rattle.std.specs.List.{flat_map}
+use Rattle.dep_model.specs.Deps.{dependencies_of}
+use Rattle.schema_printer.specs.Spelling.{printed_names_of}
+use Rattle.fewest_tables.specs.FewestSteps.{group_with}
+use Rattle.desk_designs.specs.FewestReasons.{merged_text}
+use Rattle.desk_designs.proofs.fewest_reasons.put_merged_of.Given as goal
+
+abbrev pub invariant-loop-first : goal.invariant-loop-first
+invariant-loop-first l =
+    l.text.items ≡ l.fn.text.items ++ flat_map (merged_text (printed_names_of l.schema) (dependencies_of l.kept)) (map (group_with l.lefts) (take l.first-index l.firsts))
