@@ -28,9 +28,7 @@ pub use designs::{design_of_plan, write_form, write_plan};
 pub use drawings::{draw_form, draw_plan};
 pub use fewest::synthesize_fewest;
 pub use fewest_reasons::explain_fewest;
-pub use form::{
-    check_form, tested_dependency, violation_dependency, word_of, word_of_tested,
-};
+pub use form::{check_form, tested_dependency, violation_dependency, word_of, word_of_tested};
 pub use forms::{form_of_all, forms_of_plan};
 pub use join::{check_join, test_loss};
 pub use keeping::check_keeps;

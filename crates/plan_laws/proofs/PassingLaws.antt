@@ -166,7 +166,6 @@ fourth_passes s plan is =
 
 -- ---- the plans of forms
 third_passes : (s : Schema) (plan : List AttrSet) → IsThirdFormPlan s plan → PassesCheckForm s (Higher Third) (schemes_of plan)
-
 third_passes s plan is = form_passes s Third (schemes_of plan) (λ other. absurd (other refl)) is.third
 
 pub third_plan_second : (s : Schema) (plan : List AttrSet) → IsThirdFormPlan s plan → PassesCheckForm s Second (schemes_of plan)
