@@ -57,14 +57,8 @@ with_key_long s nullable groups all (inr added) =
 merged_long : (s : Schema) (merged : List AttrSet) (is : IsMergedPlan (width_of s) (theory_of s) (nullable_of s) merged) → length merged ≤ length is.groups + 1
 merged_long s merged is =
     let kept = ap (λ (l : List AttrSet). length l) is.left in
-    omega (
-      arith,
-      kept,
-      length-without_contained_after [] is.all,
-      length-map is.all attributes,
-      with_key_long s (nullable_of s) (map (merged_scheme is.kept) is.groups) (schemes_of is.all) is.steps.completed,
-      length-map is.groups (merged_scheme is.kept),
-    )
+    omega (arith, kept, length-without_contained_after [] is.all, length-map is.all attributes,
+    with_key_long s (nullable_of s) (map (merged_scheme is.kept) is.groups) (schemes_of is.all) is.steps.completed, length-map is.groups (merged_scheme is.kept))
 
 pub one_more_than_designs : (s : Schema) (plan : List AttrSet) (design : List KeyedScheme) → IsFewestTables s plan → StatesDependencies (width_of s) (theory_of s) design → length plan ≤ length design + 1
 one_more_than_designs s plan design is states =
