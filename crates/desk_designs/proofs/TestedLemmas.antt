@@ -30,6 +30,12 @@ breach_is_text s scheme form None verdict = inl (verdict.none.0 refl, refl)
 breach_is_text s scheme form (Some breach) verdict =
     inr ((λ formed. true≢false (verdict.none.1 formed)), (attributes breach.lhs, attributes breach.rhs, verdict.named, refl))
 
+-- one text and four, one after the other
+appended : (a b c d e : List ℕ) → a ++ (b ++ c ++ d ++ e) ≡ a ++ b ++ c ++ d ++ e
+appended a b c d e =
+    sym (append_assoc a (b ++ c ++ d) e)
+    ∙ ap (λ (t : List ℕ). t ++ e) (sym (append_assoc a (b ++ c) d) ∙ ap (λ (t : List ℕ). t ++ d) (sym (append_assoc a b c)))
+
 pub scheme_text : (s : Schema) (scheme : Attributes) (forms : SchemeForms) (last : Option TestedForm) (text : List ℕ)
     → AreVerdicts (width_of s) (theory_of s) scheme forms → IsLastForm (width_of s) (theory_of s) scheme last
     → text ≡ form_line (printed_names_of s) scheme last ++ breaches_text (printed_names_of s) forms → IsSchemeText s scheme text
@@ -46,7 +52,8 @@ scheme_text s scheme forms last text are is_last is =
       of_third = breach_is_text s scheme (Higher Third) forms.third are.third;
       of_bcnf = breach_is_text s scheme (Higher Bcnf) forms.bcnf are.bcnf;
       of_fourth = breach_is_text s scheme (Higher Fourth) forms.fourth are.fourth;
-      is = is;
+      is = is ∙ appended (form_line names scheme last) (breach_text names Second forms.second) (breach_text names (Higher Third) forms.third)
+          (breach_text names (Higher Bcnf) forms.bcnf) (breach_text names (Higher Fourth) forms.fourth);
     }
 
 -- the lines of one scheme more
@@ -54,14 +61,13 @@ plan_texts_more : (s : Schema) (plan : List Attributes) (scheme : Attributes) (t
     → ArePlanTexts s (plan ++ scheme ∷ []) (text ++ one)
 plan_texts_more s [] scheme text one empty is =
     (one, [], is, refl, ap (λ (t : List ℕ). t ++ one) empty ∙ sym (append-nil one))
-plan_texts_more s (x ∷ plan) scheme text one (front, back, first, rest, whole) is =
-    (
-      front,
-      back ++ one,
-      first,
-      plan_texts_more s plan scheme back one rest is,
-      ap (λ (t : List ℕ). t ++ one) whole ∙ append_assoc front back one,
-    )
+plan_texts_more s (x ∷ plan) scheme text one (front, back, first, rest, whole) is = (
+  front,
+  back ++ one,
+  first,
+  plan_texts_more s plan scheme back one rest is,
+  ap (λ (t : List ℕ). t ++ one) whole ∙ append_assoc front back one,
+)
 
 pub listed_more : (s : Schema) (found : List TestedScheme) (i : ℕ) (d : TestedScheme) (text one next : List ℕ) → i < length found
     → ArePlanTexts s (schemes_tested (take i found)) text → IsSchemeText s (attributes (get_or found i d).scheme) one → next ≡ text ++ one

@@ -214,9 +214,15 @@ fn violation_lines(
     let bcnf = TestedForm::Higher { form: Form::Bcnf };
     let fourth = TestedForm::Higher { form: Form::Fourth };
     let mut text = violation_line(alloc, schema, TestedForm::Second, forms.second)?;
-    add(&mut text, &violation_line(alloc, schema, third, forms.third)?)?;
+    add(
+        &mut text,
+        &violation_line(alloc, schema, third, forms.third)?,
+    )?;
     add(&mut text, &violation_line(alloc, schema, bcnf, forms.bcnf)?)?;
-    add(&mut text, &violation_line(alloc, schema, fourth, forms.fourth)?)?;
+    add(
+        &mut text,
+        &violation_line(alloc, schema, fourth, forms.fourth)?,
+    )?;
     Ok(text)
 }
 

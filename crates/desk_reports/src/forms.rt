@@ -43,11 +43,7 @@ pub fn forms_section(
 }
 
 // Which form the universe is in.
-fn shown_which_form(
-    alloc: Global,
-    schema: &Schema,
-    file: &Argument,
-) -> Result<Vec<u8>, OutOfMemory>
+fn shown_which_form(alloc: Global, schema: &Schema, file: &Argument) -> Result<Vec<u8>, OutOfMemory>
     ensures shown { IfOk result (λ text. ShowsWhichForm file.now schema.now text.items) }
 {
     let title = title_of(alloc, b"Which form", b"form ", file)?;
@@ -56,17 +52,23 @@ fn shown_which_form(
 }
 
 // Whether the universe is in each of the forms.
-fn shown_each_form(
-    alloc: Global,
-    schema: &Schema,
-    file: &Argument,
-) -> Result<Vec<u8>, OutOfMemory>
+fn shown_each_form(alloc: Global, schema: &Schema, file: &Argument) -> Result<Vec<u8>, OutOfMemory>
     ensures shown { IfOk result (λ text. ShowsEachForm file.now schema.now text.items) }
 {
     let second = shown_form(alloc, schema, file, TestedForm::Second)?;
-    let third = shown_form(alloc, schema, file, TestedForm::Higher { form: Form::Third })?;
+    let third = shown_form(
+        alloc,
+        schema,
+        file,
+        TestedForm::Higher { form: Form::Third },
+    )?;
     let bcnf = shown_form(alloc, schema, file, TestedForm::Higher { form: Form::Bcnf })?;
-    let fourth = shown_form(alloc, schema, file, TestedForm::Higher { form: Form::Fourth })?;
+    let fourth = shown_form(
+        alloc,
+        schema,
+        file,
+        TestedForm::Higher { form: Form::Fourth },
+    )?;
     let last = both(bcnf, &fourth)?;
     let back = both(third, &last)?;
     let text = both(second, &back)?;

@@ -84,7 +84,7 @@ form_passes s form plan low formed =
     formed
 
 -- plans in third form are in second
-second_passes : (s : Schema) (plan : List Attributes) → All (IsThird (width_of s) (theory_of s)) plan
+pub second_passes : (s : Schema) (plan : List Attributes) → All (IsThird (width_of s) (theory_of s)) plan
     → PassesCheckForm s Second plan
 second_passes s plan third =
     passes_by s Second plan
@@ -93,15 +93,15 @@ second_passes s plan third =
     (third_second (width_of s) (theory_of s)) plan third)
 
 no_not_yes : (text : List ℕ) (response : ResponseValue) → Says No text response → response.status ≡ Yes → ⊥
-no_not_yes text response says yes =
-    let is : No ≡ Yes = sym (ap (λ (r : ResponseValue). r.status) says) ∙ yes in
+no_not_yes text response says agrees =
+    let is : No ≡ Yes = sym (ap (λ (r : ResponseValue). r.status) says) ∙ agrees in
     cc
 
 pub third_is_second : (s : Schema) (plan : List Attributes) (third second : ResponseValue)
     → JudgesForm s (Higher Third) plan third → third.status ≡ Yes → JudgesForm s Second plan second
     → Says Yes (in_form_text Second) second
-third_is_second s plan third second (inl passed) yes (inl (all, says)) = says
-third_is_second s plan third second (inl passed) yes (inr (scheme, first, ends)) =
+third_is_second s plan third second (inl passed) agrees (inl (all, says)) = says
+third_is_second s plan third second (inl passed) agrees (inr (scheme, first, ends)) =
     let within = failing_in_plan (PassesForm s Second) plan scheme first in
     let passes = All-contains (PassesForm s (Higher Third)) plan scheme passed.0 within in
     absurd (elim ends [
@@ -109,12 +109,12 @@ third_is_second s plan third second (inl passed) yes (inr (scheme, first, ends))
       | inr found ↦ violates_not_second (width_of s) (theory_of s) scheme found.1.0 found.1.1 found.1.2.violates
           (third_second (width_of s) (theory_of s) scheme passes.in_form)
     ])
-third_is_second s plan third second (inr (scheme, first, inl (wide, says))) yes judged =
-    absurd (refused_not_yes (too_wide_text (printed_names_of s) scheme) third says yes)
-third_is_second s plan third second (inr (scheme, first, inr (narrow, found))) yes judged =
-    absurd (no_not_yes (violated_text (printed_names_of s) (Higher Third) scheme found.0 found.1) third found.3 yes)
+third_is_second s plan third second (inr (scheme, first, inl (wide, says))) agrees judged =
+    absurd (refused_not_yes (too_wide_text (printed_names_of s) scheme) third says agrees)
+third_is_second s plan third second (inr (scheme, first, inr (narrow, found))) agrees judged =
+    absurd (no_not_yes (violated_text (printed_names_of s) (Higher Third) scheme found.0 found.1) third found.3 agrees)
 
-join_passes : (s : Schema) (plan : List Attributes) → LosesNothing s plan → PassesCheckJoin s plan
+pub join_passes : (s : Schema) (plan : List Attributes) → LosesNothing s plan → PassesCheckJoin s plan
 join_passes s plan lossless response (inl (inl (fits, lossy, found))) = absurd (lossy lossless)
 join_passes s plan lossless response (inl (inr (large, says))) = inr (large, ap (λ (r : ResponseValue). r.status) says)
 join_passes s plan lossless response (inr (shown, says)) = inl says
@@ -166,7 +166,6 @@ fourth_passes s plan is =
 
 -- ---- the plans of forms
 third_passes : (s : Schema) (plan : List AttrSet) → IsThirdFormPlan s plan → PassesCheckForm s (Higher Third) (schemes_of plan)
-
 third_passes s plan is = form_passes s Third (schemes_of plan) (λ other. absurd (other refl)) is.third
 
 pub third_plan_second : (s : Schema) (plan : List AttrSet) → IsThirdFormPlan s plan → PassesCheckForm s Second (schemes_of plan)

@@ -19,7 +19,7 @@ loop-scheme-preserved c =
     let scheme = get_or c.args.schemes.now c.loop-scheme.scheme-index nothing in
     let found = c.loop-scheme.found.items in
     let forms = c.in-Ok.forms in
-    let added = c.in_ok-add_tested.ensures.added in
+    let added = c.in_ok-add_tested-in-Ok.ensures.added in
     record {
       tested = subst (λ (l : List TestedScheme). All (IsTestedScheme c.args.schema.now) l) (sym added)
           (All-push (IsTestedScheme c.args.schema.now) found (tested_scheme scheme forms) before.tested c.in-Ok.ensures.forms);
@@ -28,6 +28,8 @@ loop-scheme-preserved c =
 
 pub returns-in-Err : goal.returns-in-Err
 returns-in-Err c = record {
+  tested = tt;
+  schemes = tt;
   ends = λ response is.
       let before = c.loop-scheme.invariant in
       let failed = c.in-Err.ensures.ends response is in (
@@ -44,4 +46,5 @@ returns c =
     record {
       tested = before.tested;
       schemes = before.list ∙ ap schemes_of (take_all c.loop-scheme.scheme-index c.args.schemes.now c.loop-scheme-test.false);
+      ends = tt;
     }
