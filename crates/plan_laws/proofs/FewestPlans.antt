@@ -1,5 +1,5 @@
 -- The plan of `synthesize fewest`: it passes the tests of plans, and has few schemes.
-use Rattle.std.proofs.Common.{◌≡◌, ◌≤◌, ◌+◌, ◌++◌, if◌then◌else◌, nat_lt, Bool, List, [], ◌∷◌, length, map, refl, ap, ◌∙◌, inl, inr, arith}
+use Rattle.std.proofs.Common.{◌≤◌, ◌+◌, if◌then◌else◌, nat_lt, Bool, List, [], ◌∷◌, length, map, refl, ap, inl, inr, arith}
 use Rattle.std.proofs.lemmas.Bool.{cases_Bool, ltb-true}
 use Rattle.std.proofs.lemmas.List.{length-append, length-map}
 use Rattle.attr_sets.specs.Attributes.{Attributes}
@@ -11,7 +11,7 @@ use Rattle.which_form.specs.declared.forms.TestedForm.TheVariants.{Second, Highe
 use Rattle.schema_model.specs.Schemas.{Schema, width_of, theory_of, nullable_of}
 use Rattle.wide_bcnf.proofs.SplitLemmas.{length-without_contained_after}
 use Rattle.fewest_tables.specs.KeyedDesigns.{KeyedScheme, StatesDependencies}
-use Rattle.fewest_tables.specs.MergedPlans.{AreMergedSteps, IsMergedPlan, merged_scheme, smaller}
+use Rattle.fewest_tables.specs.MergedPlans.{IsMergedPlan, merged_scheme, smaller}
 use Rattle.synthesis_3nf.specs.GroupedPlans.{IsWithKey}
 use Rattle.desk_designs.specs.FewestTables.{IsFewestTables}
 use Rattle.desk_designs.specs.Synthesis.{IsThirdFormPlan}
@@ -57,8 +57,14 @@ with_key_long s nullable groups all (inr added) =
 merged_long : (s : Schema) (merged : List AttrSet) (is : IsMergedPlan (width_of s) (theory_of s) (nullable_of s) merged) → length merged ≤ length is.groups + 1
 merged_long s merged is =
     let kept = ap (λ (l : List AttrSet). length l) is.left in
-    omega (arith, kept, length-without_contained_after [] is.all, length-map is.all attributes,
-    with_key_long s (nullable_of s) (map (merged_scheme is.kept) is.groups) (schemes_of is.all) is.steps.completed, length-map is.groups (merged_scheme is.kept))
+    omega (
+      arith,
+      kept,
+      length-without_contained_after [] is.all,
+      length-map is.all attributes,
+      with_key_long s (nullable_of s) (map (merged_scheme is.kept) is.groups) (schemes_of is.all) is.steps.completed,
+      length-map is.groups (merged_scheme is.kept),
+    )
 
 pub one_more_than_designs : (s : Schema) (plan : List AttrSet) (design : List KeyedScheme) → IsFewestTables s plan → StatesDependencies (width_of s) (theory_of s) design → length plan ≤ length design + 1
 one_more_than_designs s plan design is states =
