@@ -15,7 +15,7 @@ use Rattle.plan_printer.specs.Printing.{plan_text}
 use Rattle.schema_printer.specs.Printing.{dependency_text, set_text}
 use Rattle.schema_printer.specs.Spelling.{printed_names_of}
 use Rattle.fewest_tables.specs.MergedPlans.{left_out, merged_scheme}
-use Rattle.desk_designs.specs.FewestReasons.{AreFewestReasons, ExplainsFewest, alike_text, fewer_text, following_text, joined_sets, left_sides_word, merged_text, merging_text, more_sets}
+use Rattle.desk_designs.specs.FewestReasons.{AreFewestReasons, ExplainsFewest, alike_text, fewer_text, following_text, joined_sets, left_sides_word, merged_text, merging_text, next_set}
 use Rattle.desk_designs.specs.FewestTables.{SynthesizesFewest}
 use Rattle.desk_designs.specs.LeftOut.{left_out_text}
 use Rattle.desk_designs.specs.SynthesisReasons.{cover_text, key_text, member_text, synthesis_text}
@@ -29,14 +29,15 @@ use Rattle.reason_laws.proofs.ReasonTexts.{key_told, left_out_told, member_told,
 
 module _ (names : List (List ℕ)) (all : All IsPrinted names) where
   -- ---- what is alike
-  more_plain : (sets : List Attributes) → IsPlain (more_sets names sets)
+  more_plain : (sets : List Attributes) → IsPlain (flat_map (next_set names) sets)
   more_plain [] = refl
   more_plain (x ∷ sets) =
-      plain_both (codes " and " ++ set_text names x) (more_sets names sets) (word_set names all (codes " and ") x refl) (more_plain sets)
+      plain_both (next_set names x) (flat_map (next_set names) sets) (word_set names all (codes " and ") x refl) (more_plain sets)
 
   joined_plain : (sets : List Attributes) → IsPlain (joined_sets names sets)
   joined_plain [] = refl
-  joined_plain (x ∷ sets) = plain_both (set_text names x) (more_sets names sets) (set_plain names x all) (more_plain sets)
+  joined_plain (x ∷ sets) =
+      plain_both (set_text names x) (flat_map (next_set names) sets) (set_plain names x all) (more_plain sets)
 
   alike_lines : (group : List Attributes) → AreLines true (alike_text names group)
   alike_lines group = elim (cases_Bool (nat_lt 1 (length group))) [

@@ -4,6 +4,7 @@ use Rattle.std.proofs.lemmas.Bool.{cases_Bool}
 use Rattle.std.specs.Prelude.{if◌then◌else◌, codes, option_and_then}
 use Rattle.attr_sets.specs.Attributes.{Attributes, below, union, difference, count_below}
 use Rattle.attr_sets.specs.Sets.{is_subset}
+use Rattle.schema_model.specs.Names.{quotes_doubled}
 use Rattle.schema_model.specs.Schemas.{Schema}
 use Rattle.dep_model.specs.Dependencies.{fd, mvd}
 use Rattle.dep_model.specs.Projections.{members_below}
@@ -201,10 +202,10 @@ lack_counted = codes "COUNT(*) AS \"groups\", SUM(g.r) AS \"rows\", SUM(g.m) AS 
 
 pub change_printed : (s : Schema) (t : List ℕ) (x w : Attributes) (groups : List ℕ) → groups ≡ source_text (groups_query s t x w)
     → totals change_shown change_counted groups (codes " WHERE g.k > 1") ≡ query_text (change_query s t x w)
-unfolding totals_query
+unfolding totals_query quotes_doubled
 change_printed s t x w groups is = ap (λ (from : List ℕ). totals change_shown change_counted from (codes " WHERE g.k > 1")) is
 
 pub lack_printed : (s : Schema) (t : List ℕ) (x y z : Attributes) (groups : List ℕ) → groups ≡ source_text (pairs_query s t x y z)
     → totals lack_shown lack_counted groups (codes " WHERE g.m <> 0") ≡ query_text (lack_query s t x y z)
-unfolding totals_query
+unfolding totals_query quotes_doubled
 lack_printed s t x y z groups is = ap (λ (from : List ℕ). totals lack_shown lack_counted from (codes " WHERE g.m <> 0")) is
