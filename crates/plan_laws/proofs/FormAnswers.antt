@@ -13,7 +13,7 @@ use Rattle.which_form.specs.declared.forms.TestedForm.{TestedForm}
 use Rattle.which_form.specs.declared.forms.TestedForm.TheVariants.{Second, Higher}
 use Rattle.which_form.proofs.SecondLemmas.{one_last, one_named}
 use Rattle.desk_responses.specs.Lines.{too_wide_text}
-use Rattle.desk_responses.specs.ResponseValues.{ResponseValue, IsFirstFailing, text_only}
+use Rattle.desk_responses.specs.ResponseValues.{IsFirstFailing, text_only}
 use Rattle.desk_responses.specs.declared.status.Status.TheVariants.{Yes, Refused}
 use Rattle.desk_designs.specs.FormsOfSchemes.{ArePlanTexts, IsSchemeText, IsTestable, IsViolationText, ListsFormOfAll, ListsFormsOfPlan, form_line, violation_line}
 use Rattle.implication_laws.specs.OneAnswer.{AllowsOne}

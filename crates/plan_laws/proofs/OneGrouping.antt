@@ -114,8 +114,7 @@ one_merging n ds nullable cover others groups more kept left all every one other
     let by_kept : IsWithKey n ds nullable (map (merged_scheme left) groups) all =
     subst (λ (es : List Dependency). IsWithKey n ds nullable (map (merged_scheme es) groups) all) same one.completed in
     let completed : IsWithKey n ds nullable (map (merged_scheme left) more) all =
-    subst (λ (gs : List (List Attributes)). IsWithKey n ds nullable (map (merged_scheme left) gs) all) alike by_kept in
-    (
+    subst (λ (gs : List (List Attributes)). IsWithKey n ds nullable (map (merged_scheme left) gs) all) alike by_kept in (
       covers,
       alike,
       same,

@@ -22,7 +22,7 @@ use Rattle.min_cover.specs.Covers.{IsThinned}
 use Rattle.min_cover.specs.Members.{IsLeftReducedDependency, members_of}
 use Rattle.dep_model.specs.declared.form.Form.{Form}
 use Rattle.dep_model.specs.declared.form.Form.TheVariants.{Third, Bcnf, Fourth}
-use Rattle.plans.specs.Containing.{without_contained, without_contained_after}
+use Rattle.plans.specs.Containing.{without_contained}
 use Rattle.split_forms.proofs.StepLemmas.{reached_length}
 use Rattle.split_forms.specs.Lists.{ReachedIn}
 use Rattle.split_forms.specs.Splitting.{IsCutBy, StaysWhole}

@@ -15,7 +15,7 @@ use Rattle.plan_printer.specs.Printing.{plan_text}
 use Rattle.schema_printer.specs.Printing.{dependency_text, set_text}
 use Rattle.schema_printer.specs.Spelling.{printed_names_of}
 use Rattle.fewest_tables.specs.MergedPlans.{left_out, merged_scheme}
-use Rattle.desk_designs.specs.FewestReasons.{AreFewestReasons, ExplainsFewest, alike_text, fewer_text, following_text, joined_sets, left_sides_word, merged_text, merging_text, next_set}
+use Rattle.desk_designs.specs.FewestReasons.{AreFewestReasons, ExplainsFewest, alike_text, fewer_text, following_text, joined_sets, merged_text, merging_text, next_set}
 use Rattle.desk_designs.specs.FewestTables.{SynthesizesFewest}
 use Rattle.desk_designs.specs.LeftOut.{left_out_text}
 use Rattle.desk_designs.specs.SynthesisReasons.{cover_text, key_text, member_text, synthesis_text}
