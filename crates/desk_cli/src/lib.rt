@@ -13,7 +13,6 @@ pub mod limits;
 mod migrations;
 mod pages;
 mod questions;
-mod references;
 mod tasks;
 mod top;
 

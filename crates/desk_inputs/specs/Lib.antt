@@ -8,5 +8,4 @@ pub mod Plans
 pub mod Rows
 pub mod Parts
 pub mod Headed
-pub mod HeadedFiles
 pub mod Sql

@@ -18,9 +18,6 @@ mod OneInput
 mod OnePage
 mod FindingLaws
 mod OneMeasure
-mod OneHeadedFiles
-mod OneReferences
-mod ReferenceLaws
 mod OneTask
 mod DerivationLaws
 mod SampleWords

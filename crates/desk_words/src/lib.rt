@@ -14,7 +14,6 @@ mod numbers;
 mod pages;
 mod persons;
 mod questions;
-mod references;
 mod rows;
 mod rules;
 mod sets;

@@ -6,5 +6,4 @@ mod QuestionRefusals
 mod PlanRefusals
 mod FormRefusals
 mod RowRefusals
-mod ReferenceRefusals
 mod WordRefusals

@@ -1,3 +1,0 @@
-mod ColumnLemmas
-mod PrintedLemmas
-pub mod ReadingLemmas
