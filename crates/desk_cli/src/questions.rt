@@ -17,8 +17,8 @@ use arguments::Argument;
 use desk_covers::{cover, explain_cover};
 use desk_designs::{
     check_form, check_join, check_keeps, draw_form, draw_plan, explain_fewest, explain_split,
-    explain_synthesis, form_of_all, forms_of_plan, split_by_pairs, split_in_form, synthesize_fewest,
-    synthesize_plan, write_form, write_plan,
+    explain_synthesis, form_of_all, forms_of_plan, split_by_pairs, split_in_form,
+    synthesize_fewest, synthesize_plan, write_form, write_plan,
 };
 use desk_discovery::{discover_keys, discover_near_rules, discover_rules, discover_small_rules};
 use desk_exhibits::exhibit_relation;

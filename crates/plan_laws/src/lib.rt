@@ -30,7 +30,7 @@ pub use designed::{
 pub use fewest::{fewest_plans_are_small, fewest_plans_pass};
 pub use passing::{
     functional_plans_are_small, plans_in_form_pass, split_plans_are_narrow, synthesized_plans_keep,
-    wide_splits_pass,
+    third_form_is_second, wide_splits_pass,
 };
 pub use rejoined::{
     migrated_tables_are_rejoined, tables_are_rejoined_in_any_order, view_joins_from_the_last,
