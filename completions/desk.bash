@@ -9,7 +9,7 @@ check derivation FILE FILE TEXT
 check rows FILE FILE
 check key FILE TEXT
 check join FILE FILE
-check form 3nf|bcnf|4nf FILE FILE
+check form 2nf|3nf|bcnf|4nf FILE FILE
 check keeps FILE FILE
 check same FILE FILE
 check cover FILE FILE
@@ -19,10 +19,14 @@ closure FILE TEXT
 project FILE TEXT
 keys FILE
 keys FILE FILE
+form FILE
+form FILE FILE
 synthesize FILE
+synthesize fewest FILE
 split bcnf|4nf|wide-bcnf FILE
 exhibit FILE
 explain cover|keys|synthesize FILE
+explain synthesize fewest FILE
 explain split bcnf|4nf FILE
 measure FILE FILE
 offences FILE FILE
@@ -42,7 +46,7 @@ discover near NUMBER NUMBER FILE
 import csv FILE
 import sqlite|postgres FILE TEXT
 rejoin FILE FILE..
-sql check FILE TEXT
+sql check|measure FILE TEXT
 sql migrate 3nf|bcnf|4nf FILE TEXT
 sql migrate plan FILE FILE TEXT
 draw 3nf|bcnf|4nf FILE
