@@ -91,7 +91,7 @@ fn a_full_sink_holds_a_prefix(rt: HostRuntime) -> Result<(), Fail> {
 }
 
 const NOTICE: &[u8] = b"refused: the words form no command
-desk explain COMMAND                  reasons above what COMMAND prints: cover, keys, synthesize, split bcnf or split 4nf
+desk explain COMMAND                  reasons above what COMMAND prints: cover, keys, synthesize, synthesize fewest, split bcnf or split 4nf
 ";
 
 // A full sink of notices holds just the front of a notice, and changes no status.
