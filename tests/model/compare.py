@@ -914,9 +914,110 @@ def f_sql_measure(m):
     return ["sql", "measure", "s", table], {"s": m.schema_text(m.schema(1, 5))}
 
 
+# ---- folders of files, between which there may be references
+
+SHARED = ["ID", "No", "Name", "Customer", "Order", "Line", "Unit price", "n\u00e9e", 'say "hi"', "scheme", "text", "a,b", "x" * 31, "x" * 32, "1st"]
+FILES = ["a.csv", "b.csv", "c.csv", "orders of may.csv", "keys", "near", "\u00e9", "references"]
+
+
+def column_like(r, rows, c, count):
+    """So many values of a column, some of them missing or others."""
+    strange = r.choice((0, 0, 0, .1))
+    return [r.choice((b"", b"9", b"z")) if r.random() < strange else r.choice(rows)[c] for _ in range(count)]
+
+
+def folder(m):
+    """Files of small tables by their names, with columns whose values, or some together, are those of another."""
+    r = m.r
+    made, files = [], {}
+    for name in r.sample(FILES, r.choice((1, 2, 2, 2, 3, 3, 4))):
+        names = r.sample(SHARED[:r.choice((5, 7, 15))], r.randint(1, 5))
+        values = [b"%d" % k for k in range(r.choice((2, 2, 3, 9)))]
+        missing = r.choice((0, 0, 0, .05, .3))
+        count = r.choice((0, 1, 2, 3, 4, 6, 9))
+        columns = [[b"" if r.random() < missing else r.choice(values) for _ in range(count)] for _ in names]
+        if r.random() < .4:
+            columns[0] = [b"%d" % k for k in range(count)]
+        if made and r.random() < .8:
+            other_names, other_rows = r.choice(made)
+            drawn = [r.choice(other_rows) for _ in range(count)] if other_rows else []
+            for c, own in enumerate(names):
+                if other_rows and own in other_names and r.random() < .9:
+                    # the values that stand together there, so that several columns may reference several
+                    columns[c] = [row[other_names.index(own)] for row in drawn]
+                elif other_rows and r.random() < .4:
+                    columns[c] = column_like(r, other_rows, r.randrange(len(other_names)), count)
+        rows = list(zip(*columns))
+        rows += [r.choice(rows) for _ in range(r.choice((0, 0, 2)) if rows else 0)]
+        if r.random() < .05:
+            rows = [tuple(m.value() if r.random() < .3 else v for v in row) for row in rows]
+        made.append((names, rows))
+        files[name] = m.csv(names, rows, noise=.03)
+    return made, files
+
+
+def f_references(m):
+    r = m.r
+    made, files = folder(m)
+    words = list(files)
+    if r.random() < .1:
+        words.append(r.choice(words + ["missing"]))
+    r.shuffle(words)
+    return ["discover", "references", *words], files
+
+
+def names_of_columns(m, names, count):
+    """A word that names so many columns, or is spoilt."""
+    r = m.r
+    maker = Maker(r)
+    maker.any_names = True
+    some = r.sample(names, min(count, len(names)))
+    if r.random() < .1:
+        some.insert(r.randint(0, len(some)), r.choice((*names, "Q", "other")))
+    word = r.choice((" ", " ", ", ", "\t")).join(map(maker.spelled, some))
+    if r.random() < .12:
+        word = os.fsdecode(m.mutated(word.encode(), [p for p in PIECES if b"\0" not in p and b"\xff" not in p]))
+    return word
+
+
+def f_check_references(m):
+    r = m.r
+    made, files = folder(m)
+    words = list(files)
+    i, j = r.randrange(len(words)), r.randrange(len(words))
+    (names, _), (other_names, _) = made[i], made[j]
+    shared = [name for name in names if name in other_names]
+    if shared and r.random() < .5:
+        some = r.sample(shared, r.randint(1, min(3, len(shared))))
+        first = second = " ".join(m.spelled(name) if model.is_name(name.encode()) and name != "scheme" else '"' + name.replace('"', '""') + '"' for name in some)
+    elif r.random() < .03:
+        many = " ".join('"' + name.replace('"', '""') + '"' for name in names)
+        first, second = f"{many} {many} {many}", names_of_columns(m, other_names, 2)
+    else:
+        count = r.choice((1, 1, 1, 2, 2, 3))
+        first = names_of_columns(m, names, count)
+        second = names_of_columns(m, other_names, count if r.random() < .9 else r.randint(1, 3))
+    file = words[i] if r.random() < .97 else "missing"
+    return ["check", "references", file, first, words[j], second], files
+
+
+def f_check_many_columns(m):
+    """References of up to ten columns, of which eight are taken."""
+    r = m.r
+    n = r.randint(6, 11)
+    names = [f"C{k}" for k in range(n)]
+    rows = [tuple(r.choice((b"1", b"2", b"2", b"2")) for _ in names) for _ in range(r.randint(0, 6))]
+    count = r.choice((6, 7, 8, 8, 8, 9, 9))
+    first, second = (" ".join(r.sample(names, min(count, n)) + r.choice(([], [], ["Q"]))) for _ in range(2))
+    if r.random() < .6:
+        second = first
+    others = [r.choice(rows) for _ in range(3)] if rows else []
+    return ["check", "references", "a", first, "b", second], {"a": m.csv(names, rows, noise=0), "b": m.csv(names, others + rows[1:], noise=0)}
+
+
 ALL_WORDS = ["implies", "keys", "cover", "synthesize", "fewest", "split", "bcnf", "4nf", "3nf", "2nf", "wide-bcnf", "ddl", "plan", "check", "proof", "join", "form",
              "report", "rows", "same", "keeps", "migrate", "sample", "exhibit", "discover", "import", "csv", "sqlite", "postgres", "rejoin", "basis", "closure", "project", "key", "explain", "sql", "draw", "measure", "offences", "kept", "into", "help", "--help", "-h", "--version",
-             "s", "p", "r", "A -> B", "1", "missing", "", "Keys", "table"]
+             "s", "p", "r", "A -> B", "1", "missing", "", "Keys", "table", "references", "A"]
 ALL_WORDS += [command for command in model.OF_A_SCHEMA if command not in ALL_WORDS]
 
 
