@@ -26,6 +26,8 @@ abbrev pub files_of_command : CommandForm → List (List ℕ)
 files_of_command (form.over_schema file task) = file ∷ files_of_task task
 files_of_command (form.discover question file) = file ∷ []
 files_of_command (form.discover_all file) = file ∷ []
+files_of_command (form.discover_references files) = files
+files_of_command (form.check_references file names other other_names) = file ∷ other ∷ []
 files_of_command (form.import_csv file) = file ∷ []
 files_of_command (form.import_sql dialect file table) = file ∷ []
 files_of_command (form.sample persons) = []

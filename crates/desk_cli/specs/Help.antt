@@ -16,6 +16,8 @@ help_text =
     ++ codes "whether the derivation in FILE, by more rules, proves the goal")
     ++ line (codes "desk check rows SCHEMA CSV            "
     ++ codes "whether the rows in CSV are legal, and which break what")
+    ++ line (codes "desk check references CSV NAMES OTHER NAMES2  "
+    ++ codes "whether each row of CSV has its match in OTHER, and which have none")
     ++ line (codes "desk check key SCHEMA SET             whether the set of attributes is a key, and why")
     ++ line (codes "desk check join SCHEMA PLAN           whether the plan in PLAN loses nothing")
     ++ line (codes "desk check form FORM SCHEMA PLAN      "
@@ -65,6 +67,7 @@ help_text =
     ++ codes "those that hold once at most N rows change, with at most K attributes on the left")
     ++ line (codes "desk discover all CSV                 "
     ++ codes "all functional and multivalued dependencies of at most 10 columns")
+    ++ line (codes "desk discover references CSV..        which columns of the files reference a key of one of them")
     ++ line (codes "desk import csv CSV                   a schema of the columns of CSV, to go on from")
     ++ line (codes "desk import sqlite FILE TABLE         "
     ++ codes "a schema of TABLE, by what sqlite3 prints of a database in FILE")

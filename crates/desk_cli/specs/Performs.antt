@@ -31,6 +31,7 @@ use Rattle.desk_inputs.specs.FileKinds.{WithFile}
 use Rattle.desk_imports.specs.Columns.{ImportsColumns}
 use Rattle.desk_imports.specs.Imports.{ImportsTable}
 use Rattle.desk_inputs.specs.Headed.{headed_file, imported_file, whole_file}
+use Rattle.desk_inputs.specs.HeadedFiles.{WithHeadedFiles}
 use Rattle.desk_inputs.specs.Sql.{sql_file}
 use Rattle.desk_cli.specs.Help.{help_text, version_text}
 use Rattle.desk_implication.specs.Implication.{DecidesGoal}
@@ -54,6 +55,8 @@ use Rattle.desk_tables.specs.OwnFolders.{Looks, MigratesInto, MigratesPlanInto}
 use Rattle.desk_designs.specs.NormalForms.{JudgesForm}
 use Rattle.desk_inputs.specs.Parts.{WithParts}
 use Rattle.desk_implication.specs.Projections.{Projects}
+use Rattle.desk_references.specs.Checks.{ChecksReferences}
+use Rattle.desk_references.specs.Findings.{FindsReferences}
 use Rattle.desk_inputs.specs.Plans.{plan_file}
 use Rattle.desk_inputs.specs.Readings.{Reading}
 use Rattle.desk_tables.specs.Rejoining.{JoinsTables}
@@ -157,6 +160,10 @@ unfoldable pub Performs : Looks → Reading → CommandForm → Allowed
 Performs looks r (form.over_schema file task) = WithFile schema_file r file (λ schema. Does looks r schema task)
 Performs looks r (form.discover question file) = WithFile headed_file r file (AnswersRules question file)
 Performs looks r (form.discover_all file) = WithFile whole_file r file FindsAllRules
+Performs looks r (form.discover_references files) = WithHeadedFiles r files (FindsReferences files)
+Performs looks r (form.check_references file names other other_names) =
+    WithFile headed_file r file
+    (λ own. WithFile headed_file r other (λ others. ChecksReferences own names others other_names))
 Performs looks r (form.import_csv file) = WithFile imported_file r file ImportsColumns
 Performs looks r (form.import_sql dialect file table) = WithFile sql_file r file (ImportsTable dialect table file)
 Performs looks r (form.sample persons) = Samples persons

@@ -15,6 +15,7 @@ const HELP: &[u8] =
 desk check proof SCHEMA FILE GOAL     whether the certificate in FILE proves the goal
 desk check derivation SCHEMA FILE GOAL  whether the derivation in FILE, by more rules, proves the goal
 desk check rows SCHEMA CSV            whether the rows in CSV are legal, and which break what
+desk check references CSV NAMES OTHER NAMES2  whether each row of CSV has its match in OTHER, and which have none
 desk check key SCHEMA SET             whether the set of attributes is a key, and why
 desk check join SCHEMA PLAN           whether the plan in PLAN loses nothing
 desk check form FORM SCHEMA PLAN      whether each scheme of the plan is in the form: 2nf, 3nf, bcnf or 4nf
@@ -51,6 +52,7 @@ desk discover K CSV                   those with at most K attributes on the lef
 desk discover keys CSV                the minimal sets of columns on which no two different rows agree
 desk discover near N K CSV            those that hold once at most N rows change, with at most K attributes on the left
 desk discover all CSV                 all functional and multivalued dependencies of at most 10 columns
+desk discover references CSV..        which columns of the files reference a key of one of them
 desk import csv CSV                   a schema of the columns of CSV, to go on from
 desk import sqlite FILE TABLE         a schema of TABLE, by what sqlite3 prints of a database in FILE
 desk import postgres FILE TABLE       the same by what pg_dump prints

@@ -13,6 +13,7 @@ pub mod limits;
 mod migrations;
 mod pages;
 mod questions;
+mod references;
 mod tasks;
 mod top;
 

@@ -29,6 +29,7 @@ ghost use Rattle.row_groups.specs.declared.buckets.TheConstants.{BUCKETS, FACTOR
 ghost use Rattle.csv_rows.specs.declared.reading.TheConstants.{MOST_ROWS};
 ghost use Rattle.candidate_sets.specs.declared.refusal.TheConstants.{MOST_CANDIDATES};
 ghost use Rattle.near_rules.specs.declared.found.TheConstants.{MOST_TRIED};
+ghost use Rattle.file_references.specs.declared.reference.TheConstants.{MOST_KEY_COLUMNS};
 ghost use Rattle.sample_rows.specs.declared.rows.TheConstants.{MOST_PERSONS};
 ghost use Rattle.sql_scripts.specs.declared.naming.TheConstants.{MOST_PART_BYTES};
 ghost use Rattle.nearest_lines.specs.declared.ranking.TheConstants.{MOST_NEAREST};
@@ -37,6 +38,7 @@ ghost use Rattle.desk_words.specs.declared.command.TheConstants.{MOST_FILES};
 ghost use Rattle.desk_inputs.specs.declared.rows.TheConstants.{MOST_CSV_BYTES};
 ghost use Rattle.desk_inputs.specs.declared.sql.TheConstants.{MOST_SQL_BYTES};
 ghost use Rattle.desk_discovery.specs.declared.discovering.TheConstants.{WIDEST_TRIED};
+ghost use Rattle.desk_references.specs.declared.columns.TheConstants.{MOST_LISTED_COLUMNS, MOST_LIST_BYTES};
 ghost use Rattle.desk_designs.specs.declared.decomposition.TheConstants.{MOST_SPLIT_SCHEMES};
 ghost use Rattle.desk_designs.specs.declared.join.TheConstants.{MOST_TABLEAU_ROWS};
 ghost use Rattle.desk_tables.specs.declared.rejoining.TheConstants.{MOST_JOINED_ROWS};
@@ -64,6 +66,7 @@ pub fn limits_of_texts()
     ensures schema { MOST_TEXT_BYTES ≡ 1048576 }
     ensures goal { MOST_GOAL_BYTES ≡ 16384 }
     ensures set { MOST_SET_BYTES ≡ 16384 }
+    ensures columns { MOST_LIST_BYTES ≡ 65536 }
     ensures plan { MOST_PLAN_BYTES ≡ 1048576 }
     ensures certificate { MOST_PROOF_BYTES ≡ 268435456 }
     ensures csv { MOST_CSV_BYTES ≡ 4000000000 }
@@ -83,7 +86,8 @@ pub fn limits_of_contents()
     ensures whole_columns { WIDEST_WITH_ALL ≡ 10 }
 {}
 
-/// Where a search gives up, and up to how many columns `discover` tries all sets.
+/// Where a search gives up, up to how many columns `discover` tries all sets, and how many a key has to which a
+/// reference is looked for.
 pub fn limits_of_searches()
     ensures keys { MOST_KEYS ≡ 1024 }
     ensures searched { WIDEST_SEARCHED ≡ 20 }
@@ -91,6 +95,7 @@ pub fn limits_of_searches()
     ensures tried { WIDEST_TRIED ≡ 12 }
     ensures tried_sets { MOST_TRIED ≡ 1000000 }
     ensures candidates { MOST_CANDIDATES ≡ 1000000 }
+    ensures key_columns { MOST_KEY_COLUMNS ≡ 3 }
     ensures exhibited { WIDEST_EXHIBITED ≡ 16 }
     ensures exhibited_rows { MOST_EXHIBITED_ROWS ≡ 100000 }
     ensures split_schemes { MOST_SPLIT_SCHEMES ≡ 4096 }
@@ -98,12 +103,13 @@ pub fn limits_of_searches()
     ensures joined_rows { MOST_JOINED_ROWS ≡ 10000000 }
 {}
 
-/// What words may say: files, invented persons, columns on the left, and the parts of a table's name with
-/// their bytes; and how many lines of `help` are shown where they say nothing.
+/// What words may say: files, invented persons, columns on the left, columns that one word lists, and the parts of a
+/// table's name with their bytes; and how many lines of `help` are shown where they say nothing.
 pub fn limits_of_words()
     ensures files { MOST_FILES ≡ 64 }
     ensures persons { MOST_PERSONS ≡ 25000 }
     ensures on_left { MOST_ON_LEFT ≡ 64 }
+    ensures listed_columns { MOST_LISTED_COLUMNS ≡ 8 }
     ensures parts { MOST_PARTS ≡ 3 }
     ensures part { MOST_PART_BYTES ≡ 63 }
     ensures nearest { MOST_NEAREST ≡ 3 }

@@ -12,6 +12,7 @@ ghost use Rattle.desk_responses.specs.Responses.{response_value, RespondsAs};
 
 use crate::help::{help, nearest_commands, version};
 use crate::imports::{of_imported, of_sql};
+use crate::references::{of_headed_files, of_two_headed};
 use crate::tasks::{of_headed, of_whole, over_schema};
 use arguments::Argument;
 use dep_model::OutOfMemory;
@@ -235,6 +236,13 @@ fn perform<F: FileSource, M: FolderMaker>(
             of_headed(alloc, hashing, source, file, question)
         }
         Command::DiscoverAll { file } => of_whole(alloc, hashing, source, file),
+        Command::DiscoverReferences { files } => of_headed_files(alloc, hashing, source, files),
+        Command::CheckReferences {
+            file,
+            names,
+            other,
+            other_names,
+        } => of_two_headed(alloc, hashing, source, file, names, other, other_names),
         Command::ImportCsv { file } => of_imported(alloc, source, file),
         Command::ImportSql {
             dialect,

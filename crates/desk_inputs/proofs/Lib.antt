@@ -1,4 +1,5 @@
 pub mod BegunLemmas
+mod HeadedLemmas
 pub mod KindLemmas
 pub mod PartLemmas
 pub mod ReadingLemmas

@@ -14,7 +14,7 @@ use Rattle.desk_inputs.specs.FileKinds.{IsFile}
 use Rattle.desk_inputs.proofs.BegunLemmas.{front_longer, front_later}
 use Rattle.desk_inputs.specs.Parts.{ArePartFiles, part_file}
 
-zip_push : {X Y : Type 0} (R : X → Y → Type 0) (xs : List X) (ys : List Y) (x : X) (y : Y) → AllZip R xs ys → R x y → AllZip R (xs ++ x ∷ []) (ys ++ y ∷ [])
+pub zip_push : {X Y : Type 0} (R : X → Y → Type 0) (xs : List X) (ys : List Y) (x : X) (y : Y) → AllZip R xs ys → R x y → AllZip R (xs ++ x ∷ []) (ys ++ y ∷ [])
 zip_push R [] [] x y h r = (r, tt)
 zip_push R [] (b ∷ ys) x y h r = absurd h
 zip_push R (a ∷ xs) [] x y h r = absurd h

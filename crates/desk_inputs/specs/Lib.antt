@@ -8,4 +8,5 @@ pub mod Plans
 pub mod Rows
 pub mod Parts
 pub mod Headed
+pub mod HeadedFiles
 pub mod Sql

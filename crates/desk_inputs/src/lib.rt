@@ -10,6 +10,7 @@
 
 mod derived;
 mod headed;
+mod headed_files;
 mod parts;
 mod plan;
 mod read;
@@ -19,6 +20,7 @@ mod sql;
 
 pub use derived::open_derivation;
 pub use headed::{Purpose, open_headed};
+pub use headed_files::open_headed_files;
 pub use parts::open_parts;
 pub use plan::open_plan;
 pub use read::{open_proof, open_schema};

@@ -1,6 +1,9 @@
 -- Where the files of `discover`, `import csv` and `rejoin` have their meaning, these commands answer yes or no.
-use Rattle.std.proofs.Common.{◌≡◌, ◌≤◌, ◌<◌, ◌⊎◌, ℕ, true, false, List, [], ◌∷◌, length, inl, inr, refl, ap, arith}
+use Rattle.std.proofs.Common.{◌≡◌, ◌≤◌, ◌<◌, ◌⊎◌, ℕ, true, false, List, [], ◌∷◌, length, inl, inr, refl, sym, ap, ◌∙◌, arith, true≢false}
+use Rattle.std.proofs.lemmas.Bool.{cases_Bool}
+use Rattle.std.proofs.lemmas.Slice.Eq.{bytes_eq-Decides}
 use Rattle.std.specs.Prelude.{codes}
+use Rattle.std.specs.Str.{bytes_eq}
 use Rattle.attr_sets.specs.Sets.{attributes}
 use Rattle.candidate_search.specs.declared.side.TooManyLeftSides.{TooManyLeftSides}
 use Rattle.csv_rows.specs.declared.part.PartialRows.{PartialRows}
@@ -24,7 +27,7 @@ use Rattle.desk_discovery.specs.NearDiscoveries.{FindsNearRules}
 use Rattle.desk_discovery.specs.KeyDiscoveries.{FindsRowKeys}
 use Rattle.desk_inputs.specs.FileKinds.{IsFile, WithFile}
 use Rattle.desk_inputs.specs.Headed.{headed_file, headed_file_for, imported, imported_file, whole_file, wholly_discovered}
-use Rattle.desk_words.specs.Forms.{after_discover, form_of, form_over_rows, form_over_schema, schema_and_several, are_one_to_64, after_import, word_alone}
+use Rattle.desk_words.specs.Forms.{after_discover, discover_in_one, form_of, form_over_rows, form_over_schema, schema_and_several, are_one_to_64, after_import, word_alone}
 use Rattle.desk_words.specs.Numbers.{is_left_bound, is_short_number, is_row_bound}
 use Rattle.desk_imports.specs.Columns.{ImportsColumns}
 use Rattle.desk_inputs.specs.Inputs.{schema_file}
@@ -49,14 +52,25 @@ after_headed files command limits name headed rest response is answered =
 
 discover_asks : (files : Files) (file : List ℕ) (looks : Looks) (response : ResponseValue)
     → Answers looks (known_files files) (codes "discover" ∷ file ∷ []) response → WithFile headed_file (known_files files) file (FindsRules file) response
-unfolding form_of after_discover Performs AnswersRules
+unfolding form_of after_discover discover_in_one Performs AnswersRules
 discover_asks files file looks response answered = answered
+
+-- a number of attributes is no `references`
+references_no_bound : is_left_bound (codes "references") ≡ false
+unfolding is_left_bound is_short_number
+references_no_bound = refl
+
+bound_no_references : (word : List ℕ) → is_left_bound word ≡ true → bytes_eq word (codes "references") ≡ false
+bound_no_references word bounds = elim (cases_Bool (bytes_eq word (codes "references"))) [
+  | inl same ↦ absurd (true≢false (sym bounds ∙ ap is_left_bound ((bytes_eq-Decides word (codes "references")).0 same) ∙ references_no_bound))
+  | inr other ↦ other
+]
 
 small_asks : (files : Files) (word file : List ℕ) (looks : Looks) (response : ResponseValue) → is_left_bound word ≡ true
     → Answers looks (known_files files) (codes "discover" ∷ word ∷ file ∷ []) response
     → WithFile headed_file (known_files files) file (FindsSmallRules (number_of word) file) response
-unfolding form_of after_discover Performs AnswersRules
-small_asks files word file looks response bounds answered = (rw bounds at answered)
+unfolding form_of after_discover discover_in_one Performs AnswersRules
+small_asks files word file looks response bounds answered = (rw (bound_no_references word bounds, bounds) at answered)
 
 no_bound : is_left_bound (codes "keys") ≡ false
 unfolding is_left_bound is_short_number
@@ -65,7 +79,7 @@ no_bound = refl
 keys_ask : (files : Files) (file : List ℕ) (looks : Looks) (response : ResponseValue)
     → Answers looks (known_files files) (codes "discover" ∷ codes "keys" ∷ file ∷ []) response
     → WithFile headed_file (known_files files) file (FindsRowKeys file) response
-unfolding form_of after_discover Performs AnswersRules
+unfolding form_of after_discover discover_in_one Performs AnswersRules
 keys_ask files file looks response answered = (rw no_bound at answered)
 
 rules_given : (file : List ℕ) (headed : HeadedRows) (response : ResponseValue)
@@ -90,7 +104,7 @@ near_asks : (files : Files) (limit most file : List ℕ) (looks : Looks) (respon
     → is_left_bound most ≡ true
     → Answers looks (known_files files) (codes "discover" ∷ codes "near" ∷ limit ∷ most ∷ file ∷ []) response
     → WithFile headed_file (known_files files) file (FindsNearRules (number_of limit) (number_of most) file) response
-unfolding form_of after_discover Performs AnswersRules
+unfolding form_of after_discover discover_in_one Performs AnswersRules
 near_asks files limit most file looks response rows bounds answered = (rw (rows, bounds) at answered)
 
 near_given : (limit most : ℕ) (file : List ℕ) (headed : HeadedRows) (response : ResponseValue)
@@ -144,7 +158,7 @@ all_no_bound = refl
 all_asks : (files : Files) (file : List ℕ) (looks : Looks) (response : ResponseValue)
     → Answers looks (known_files files) (codes "discover" ∷ codes "all" ∷ file ∷ []) response
     → WithFile whole_file (known_files files) file FindsAllRules response
-unfolding form_of after_discover Performs
+unfolding form_of after_discover discover_in_one Performs
 all_asks files file looks response answered = (rw all_no_bound at answered)
 
 pub discover_all_answered : (files : Files) (file : List ℕ) (headed : HeadedRows) → IsFile whole_file (known_files files) file headed

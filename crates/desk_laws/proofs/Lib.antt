@@ -18,6 +18,9 @@ mod OneInput
 mod OnePage
 mod FindingLaws
 mod OneMeasure
+mod OneHeadedFiles
+mod OneReferences
+mod ReferenceLaws
 mod OneTask
 mod DerivationLaws
 mod SampleWords

@@ -10,7 +10,7 @@ use Rattle.implication_laws.proofs.OneAnswer.{one_near_answer, one_row_keys_answ
 use Rattle.plan_laws.proofs.SampleAnswers.{one_sampled}
 use Rattle.desk_cli.specs.Performs.{Answers, AnswersRules, Does, Performs}
 use Rattle.desk_discovery.specs.AllDiscoveries.{FindsAllRules}
-use Rattle.desk_inputs.specs.FileKinds.{IsFile}
+use Rattle.desk_inputs.specs.FileKinds.{IsFile, WithFile}
 use Rattle.desk_imports.proofs.LawLemmas.{import_once}
 use Rattle.desk_imports.specs.Columns.{ImportsColumns}
 use Rattle.desk_inputs.specs.Headed.{headed_file, imported, imported_file, whole_file, wholly_discovered}
@@ -18,9 +18,13 @@ use Rattle.desk_inputs.specs.Inputs.{schema_file}
 use Rattle.desk_inputs.specs.Readings.{known_files}
 use Rattle.desk_laws.proofs.ImportLaws.{one_import_of_sql}
 use Rattle.desk_laws.proofs.OneFile.{one_after_file, two_after_file}
+use Rattle.desk_laws.proofs.OneHeadedFiles.{one_after_headed_files}
+use Rattle.desk_laws.proofs.OneReferences.{one_checked, one_found}
 use Rattle.desk_laws.proofs.OneTask.{one_task}
 use Rattle.desk_laws.proofs.OneText.{headed_text_once, schema_once}
 use Rattle.desk_laws.proofs.SampleWords.{sample_within}
+use Rattle.desk_references.specs.Checks.{ChecksReferences}
+use Rattle.desk_references.specs.Findings.{FindsReferences}
 use Rattle.desk_tables.specs.OwnFolders.{HasOneLook, Looks}
 use Rattle.desk_laws.specs.OneReading.{AskForAPage, AskForRules, AskWhatIsDerived, BothDerive, BothReport, IsOneButForProof, RefusesSearch}
 use Rattle.desk_responses.specs.ResponseValues.{ResponseValue, Says}
@@ -99,6 +103,13 @@ one_command looks files (form.discover question file) one other single few_perso
 one_command looks files (form.discover_all file) one other single few_persons first second =
     inl (one_after_file files file whole_file (headed_text_once wholly_discovered) FindsAllRules
     (λ headed is. one_whole_answer headed) one other first second)
+one_command looks files (form.discover_references names) one other single few_persons first second =
+    inl (one_after_headed_files files names (FindsReferences names) (one_found names) one other first second)
+one_command looks files (form.check_references file names more others) one other single few_persons first second =
+    inl (one_after_file files file headed_file (headed_text_once discovered)
+    (λ own. WithFile headed_file (known_files files) more (λ read. ChecksReferences own names read others))
+    (λ own is. one_after_file files more headed_file (headed_text_once discovered)
+    (λ read. ChecksReferences own names read others) (λ read also. one_checked own names read others)) one other first second)
 one_command looks files (form.import_csv file) one other single few_persons first second =
     inl (one_after_file files file imported_file (headed_text_once imported) ImportsColumns
     (λ headed is. import_once headed) one other first second)

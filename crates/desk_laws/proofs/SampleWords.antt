@@ -1,5 +1,5 @@
 -- Words that form `sample` name a number of persons within the limit.
-use Rattle.std.proofs.Common.{◌≡◌, ◌≤◌, ◌&&◌, ℕ, Bool, true, false, List, [], ◌∷◌, Option, Some, None, subst, if◌then◌else◌, codes}
+use Rattle.std.proofs.Common.{◌≡◌, ◌≤◌, ◌&&◌, ℕ, Bool, true, false, List, [], ◌∷◌, Option, Some, None, length, nat_lt, subst, if◌then◌else◌, codes}
 use Rattle.std.proofs.lemmas.Bool.{and_parts, cond_both, leb-true}
 use Rattle.std.specs.Option.{option_and_then}
 use Rattle.std.specs.Str.{bytes_eq}
@@ -8,6 +8,7 @@ use Rattle.dep_model.specs.declared.form.Form.{Form}
 use Rattle.sample_rows.specs.declared.rows.TheConstants.{MOST_PERSONS}
 use Rattle.desk_words.specs.Forms as form
 use Rattle.desk_words.specs.Forms.{CommandForm, PlanQuestion, RowsQuestion, SchemaQuestion, Task, after_check, after_check_form, after_ddl, after_discover, after_draw, after_explain, after_explain_split, after_explain_synthesize, after_form, after_keys, after_migrate, after_migrate_form, after_migrate_plan, after_offences, after_report, after_split, after_sql, after_sql_migrate, after_synthesize, are_one_to_64, form_of, form_over_rows, form_over_schema, no_more_arguments, normal_form, persons_alone, schema_alone, schema_and_file, schema_and_plan, schema_and_plan_and_word, schema_and_rows, schema_and_several, schema_and_two, schema_and_word, tested_form, two_schemas, after_import, dialect_of, file_and_table, word_alone}
+use Rattle.desk_words.specs.Forms.{discover_in_one, several_files, two_named_files}
 use Rattle.sql_lexemes.specs.declared.dialect.Dialect.{Dialect}
 use Rattle.desk_words.specs.Numbers.{is_count, is_left_bound, is_row_bound}
 
@@ -17,6 +18,8 @@ IsFew (form.sample persons) = persons ≤ MOST_PERSONS
 IsFew (form.over_schema file task) = Unit {0}
 IsFew (form.discover question file) = Unit {0}
 IsFew (form.discover_all file) = Unit {0}
+IsFew (form.discover_references files) = Unit {0}
+IsFew (form.check_references file names other other_names) = Unit {0}
 IsFew (form.import_csv file) = Unit {0}
 IsFew (form.import_sql dialect file table) = Unit {0}
 IsFew form.help = Unit {0}
@@ -100,16 +103,26 @@ few_and_several task [] = tt
 few_and_several task (schema ∷ words) =
     few_if (are_one_to_64 words) (Some (form.over_schema schema (task words))) None tt tt
 
+few_in_one : (words : List (List ℕ)) → AreFew (discover_in_one words)
+unfolding discover_in_one
+few_in_one [] = tt
+few_in_one (a ∷ []) = tt
+few_in_one (what ∷ rows ∷ []) =
+    few_if (is_left_bound what) _ _ tt (few_if (bytes_eq what (codes "keys")) _ _ tt (few_if (bytes_eq what (codes "all")) _ _ tt tt))
+few_in_one (a ∷ b ∷ d ∷ []) = tt
+few_in_one (what ∷ limit ∷ most ∷ rows ∷ []) =
+    few_if (bytes_eq what (codes "near") && (is_row_bound limit && is_left_bound most)) _ _ tt tt
+few_in_one (a ∷ b ∷ d ∷ e ∷ f ∷ words) = tt
+
+few_files : (words : List (List ℕ)) → AreFew (several_files form.discover_references words)
+unfolding several_files
+few_files words = few_if (are_one_to_64 words) (Some (form.discover_references words)) None tt tt
+
 few_discover : (words : List (List ℕ)) → AreFew (after_discover words)
 unfolding after_discover
 few_discover [] = tt
-few_discover (a ∷ []) = tt
-few_discover (what ∷ rows ∷ []) =
-    few_if (is_left_bound what) _ _ tt (few_if (bytes_eq what (codes "keys")) _ _ tt (few_if (bytes_eq what (codes "all")) _ _ tt tt))
-few_discover (a ∷ b ∷ d ∷ []) = tt
-few_discover (what ∷ limit ∷ most ∷ rows ∷ []) =
-    few_if (bytes_eq what (codes "near") && (is_row_bound limit && is_left_bound most)) _ _ tt tt
-few_discover (a ∷ b ∷ d ∷ e ∷ f ∷ words) = tt
+few_discover (what ∷ rest) =
+    few_if (nat_lt 0 (length rest) && bytes_eq what (codes "references")) _ _ (few_files rest) (few_in_one (what ∷ rest))
 
 few_imported : (words : List (List ℕ)) → AreFew (word_alone form.import_csv words)
 unfolding word_alone
@@ -154,6 +167,15 @@ unfolding after_check_form
 few_check_form [] = tt
 few_check_form (what ∷ rest) = few_then _ (tested_form what) (λ tested. few_and_plan (form.check_form tested) rest)
 
+few_named_files : (words : List (List ℕ)) → AreFew (two_named_files form.check_references words)
+unfolding two_named_files
+few_named_files [] = tt
+few_named_files (a ∷ []) = tt
+few_named_files (a ∷ b ∷ []) = tt
+few_named_files (a ∷ b ∷ d ∷ []) = tt
+few_named_files (a ∷ b ∷ d ∷ e ∷ []) = tt
+few_named_files (a ∷ b ∷ d ∷ e ∷ f ∷ words) = tt
+
 few_check : (words : List (List ℕ)) → AreFew (after_check words)
 unfolding after_check
 few_check [] = tt
@@ -166,7 +188,8 @@ few_check (what ∷ rest) =
     (few_if (bytes_eq what (codes "form")) _ _ (few_check_form rest)
     (few_if (bytes_eq what (codes "keeps")) _ _ (few_and_plan form.check_keeps rest)
     (few_if (bytes_eq what (codes "same")) _ _ (few_schemas form.check_same rest)
-    (few_if (bytes_eq what (codes "cover")) _ _ (few_schemas form.check_cover rest) tt))))))))
+    (few_if (bytes_eq what (codes "cover")) _ _ (few_schemas form.check_cover rest)
+    (few_if (bytes_eq what (codes "references")) _ _ (few_named_files rest) tt)))))))))
 
 few_keys : (words : List (List ℕ)) → AreFew (after_keys words)
 unfolding after_keys

@@ -6,6 +6,7 @@ pub mod Imported
 pub mod OneAnswers
 pub mod ImportedAgain
 pub mod OneMeasures
+pub mod OneReferences
 pub mod LastBegun
 pub mod AnsweredCalls
 pub mod AnsweredDerivations
@@ -14,5 +15,6 @@ pub mod AnsweredMeasures
 pub mod AnsweredPages
 pub mod AnsweredQuestions
 pub mod AnsweredReasons
+pub mod AnsweredReferences
 pub mod AnsweredScripts
 pub mod AnsweredTables

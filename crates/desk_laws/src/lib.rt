@@ -4,8 +4,9 @@
 //! proof.
 //!
 //! Promises: what `implies` prints, `check proof` accepts; what `ddl` prints, `import` reads back;
-//! where nothing fails, a call whose inputs have a meaning is answered; over known files any two
-//! answers to words are equal, but for the derivation of a goal.
+//! what `discover references` lists, `check references` confirms; where nothing fails, a call whose
+//! inputs have a meaning is answered; over known files any two answers to words are equal, but for
+//! the derivation of a goal.
 #![tactic(auto)]
 
 mod begun;
@@ -16,11 +17,13 @@ mod complete_measures;
 mod complete_pages;
 mod complete_questions;
 mod complete_reasons;
+mod complete_references;
 mod complete_scripts;
 mod complete_tables;
 mod imported;
 mod one_answer;
 mod one_measure;
+mod one_references;
 
 ghost use Rattle.std.specs.Prelude.{◌≡◌, ◌≤◌, ℕ, List, [], ◌∷◌, length, Some, codes};
 ghost use Rattle.desk_responses.specs.declared.status.Status.TheVariants.{Yes};
@@ -49,6 +52,7 @@ pub use complete_reasons::{
     explain_cover_is_answered, explain_fewest_is_answered, explain_keys_is_answered,
     explain_split_is_answered, explain_synthesize_is_answered,
 };
+pub use complete_references::{check_references_is_answered, discover_references_is_answered};
 pub use complete_scripts::{
     draw_is_answered, sql_check_is_answered, sql_measure_is_answered, sql_migrate_is_answered,
 };
@@ -65,6 +69,9 @@ pub use one_answer::{
 };
 pub use one_measure::{
     one_answer_of_kept, one_answer_of_measure, one_answer_of_offences, one_schema_of_texts,
+};
+pub use one_references::{
+    one_answer_of_check_references, one_answer_of_discover_references, references_are_checked,
 };
 
 /// What `implies` prints after yes, kept in a file, is accepted by `check proof` for the same schema and

@@ -1,6 +1,6 @@
 -- A command of the code, as its form: for `parse`. `Desk` does not cite it.
 use Rattle.desk_words.specs.declared.command.Command.{Command}
-use Rattle.desk_words.specs.declared.command.Command.TheVariants.{OverSchema, Discover, ImportCsv, ImportSql, Sample, Help, Version, DiscoverAll}
+use Rattle.desk_words.specs.declared.command.Command.TheVariants.{OverSchema, Discover, ImportCsv, ImportSql, Sample, Help, Version, DiscoverAll, DiscoverReferences, CheckReferences}
 use Rattle.desk_words.specs.declared.questions.PlanQuestion.{PlanQuestion}
 use Rattle.desk_words.specs.declared.questions.PlanQuestion.TheVariants as plan
 use Rattle.desk_words.specs.declared.questions.RowsQuestion.{RowsQuestion}
@@ -81,6 +81,9 @@ abbrev pub command_form : Command → form.CommandForm
 command_form (OverSchema schema task) = form.over_schema schema.now (task_form task)
 command_form (Discover question file) = form.discover (rules_question question) file.now
 command_form (DiscoverAll file) = form.discover_all file.now
+command_form (DiscoverReferences files) = form.discover_references files.now
+command_form (CheckReferences file names other other_names) =
+    form.check_references file.now names.now other.now other_names.now
 command_form (ImportCsv file) = form.import_csv file.now
 command_form (ImportSql dialect file table) = form.import_sql dialect file.now table.now
 command_form (Sample persons) = form.sample persons.number

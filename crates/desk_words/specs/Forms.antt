@@ -144,6 +144,10 @@ pub data CommandForm : Type 0 where
   discover : RulesQuestion → List ℕ → CommandForm
   -- all dependencies that the rows of a file obey
   discover_all : List ℕ → CommandForm
+  -- which columns of files reference which, over the rows of all of them
+  discover_references : List (List ℕ) → CommandForm
+  -- whether each row of a file, by columns of these names, has its match in a second file, by columns of others
+  check_references : List ℕ → List ℕ → List ℕ → List ℕ → CommandForm
   -- a schema of the columns of a file of rows
   import_csv : List ℕ → CommandForm
   -- a schema of a table that the SQL of a file defines
@@ -206,6 +210,15 @@ unfoldable pub schema_and_several : (List (List ℕ) → Task) → List (List �
 schema_and_several task [] = None
 schema_and_several task (schema ∷ words) = if are_one_to_64 words then Some (over_schema schema (task words)) else None
 
+-- from one file to the most files
+unfoldable pub several_files : (List (List ℕ) → CommandForm) → List (List ℕ) → Option CommandForm
+several_files form words = if are_one_to_64 words then Some (form words) else None
+
+-- two files, each with names of its columns
+unfoldable pub two_named_files : (List ℕ → List ℕ → List ℕ → List ℕ → CommandForm) → List (List ℕ) → Option CommandForm
+two_named_files form (file ∷ names ∷ other ∷ other_names ∷ []) = Some (form file names other other_names)
+two_named_files form _ = None
+
 -- one word
 unfoldable pub word_alone : (List ℕ → CommandForm) → List (List ℕ) → Option CommandForm
 word_alone form (word ∷ []) = Some (form word)
@@ -256,6 +269,7 @@ after_check (what ∷ rest) =
     else if bytes_eq what (codes "keeps") then schema_and_plan check_keeps rest
     else if bytes_eq what (codes "same") then two_schemas check_same rest
     else if bytes_eq what (codes "cover") then two_schemas check_cover rest
+    else if bytes_eq what (codes "references") then two_named_files check_references rest
     else None
 
 -- after `keys`
@@ -405,12 +419,19 @@ discover_after_numbers what limit most rows =
     then Some (discover (near_rules (number_of limit) (number_of most)) rows)
     else None
 
--- after `discover`
+-- after `discover`, what is asked of one file
+unfoldable pub discover_in_one : List (List ℕ) → Option CommandForm
+discover_in_one (rows ∷ []) = Some (discover minimal_rules rows)
+discover_in_one (what ∷ rows ∷ []) = discover_after_word what rows
+discover_in_one (what ∷ limit ∷ most ∷ rows ∷ []) = discover_after_numbers what limit most rows
+discover_in_one _ = None
+
+-- after `discover`; `references` alone is a file of this name
 unfoldable pub after_discover : List (List ℕ) → Option CommandForm
-after_discover (rows ∷ []) = Some (discover minimal_rules rows)
-after_discover (what ∷ rows ∷ []) = discover_after_word what rows
-after_discover (what ∷ limit ∷ most ∷ rows ∷ []) = discover_after_numbers what limit most rows
-after_discover _ = None
+after_discover [] = None
+after_discover (what ∷ rest) =
+    if nat_lt 0 (length rest) && bytes_eq what (codes "references") then several_files discover_references rest
+    else discover_in_one (what ∷ rest)
 
 -- what is asked of a schema, to the rows of a file
 unfoldable pub form_over_rows : List ℕ → List (List ℕ) → Option CommandForm

@@ -6,6 +6,7 @@ ghost use Rattle.desk_words.specs.Forms as forms;
 
 use crate::command::Command;
 use crate::questions::{PlanQuestion, RowsQuestion, SchemaQuestion, Task};
+use crate::references::after_check_references;
 use crate::shapes::{is_word, over, schema_and_plan, schema_and_rows, tested_form};
 use arguments::Argument;
 
@@ -43,6 +44,9 @@ pub fn after_check(words: &[Argument]) -> Option<Command<'_>>
     }
     if is_word(what, b"cover") {
         return after_check_cover(rest);
+    }
+    if is_word(what, b"references") {
+        return after_check_references(rest);
     }
     None
 }

@@ -39,6 +39,18 @@ pub enum Command<'a> {
     DiscoverAll {
         file: &'a Argument,
     },
+    /// Which columns of files reference which, over the rows of all of them.
+    DiscoverReferences {
+        files: &'a [Argument],
+    },
+    /// Whether each row of a file, by columns of these names, has its match in another file, by columns of
+    /// others.
+    CheckReferences {
+        file: &'a Argument,
+        names: &'a Argument,
+        other: &'a Argument,
+        other_names: &'a Argument,
+    },
     /// A schema of the columns of a file of rows.
     ImportCsv {
         file: &'a Argument,

@@ -14,6 +14,7 @@ mod numbers;
 mod pages;
 mod persons;
 mod questions;
+mod references;
 mod rows;
 mod rules;
 mod sets;

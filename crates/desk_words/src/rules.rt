@@ -7,6 +7,7 @@ ghost use Rattle.desk_words.specs.Forms as forms;
 use crate::bounds::{left_bound_of, row_bound_of};
 use crate::command::Command;
 use crate::questions::RulesQuestion;
+use crate::references::after_discover_references;
 use crate::shapes::is_word;
 use arguments::Argument;
 
@@ -14,6 +15,20 @@ use arguments::Argument;
 #[tactic(auto, unfolding(crate::specs::Forms::after_discover))]
 pub fn after_discover(words: &[Argument]) -> Option<Command<'_>>
     ensures form { option_map command_form result ≡ forms.after_discover words.now }
+{
+    let [what, rest @ ..] = words else {
+        return None;
+    };
+    if !rest.is_empty() && is_word(what, b"references") {
+        return after_discover_references(rest);
+    }
+    discover_in_one(words)
+}
+
+// After `discover`, what is asked of one file.
+#[tactic(auto, unfolding(crate::specs::Forms::discover_in_one))]
+fn discover_in_one(words: &[Argument]) -> Option<Command<'_>>
+    ensures form { option_map command_form result ≡ forms.discover_in_one words.now }
 {
     match words {
         [file] => rules_of(RulesQuestion::Minimal, file),

@@ -32,7 +32,8 @@ use Rattle.headed_rows.specs.declared.headed_rows.Limits.{Limits}
 use Rattle.headed_rows.specs.declared.refusal.HeaderRefusal.{HeaderRefusal}
 use Rattle.desk_arguments.specs.Goals.{GoalStops, IsGoal, IsSetText, SetStops, WithGoal, WithSet}
 use Rattle.desk_inputs.specs.FileKinds.{FileKind, FileStops, IsFile, LoadStops, WithFile}
-use Rattle.desk_inputs.specs.Headed.{headed_file_for, headed_refusal_text}
+use Rattle.desk_inputs.specs.Headed.{headed_file, headed_file_for, headed_refusal_text}
+use Rattle.desk_inputs.specs.HeadedFiles.{AreHeadedFiles, HeadedFilesStop, WithHeadedFiles}
 use Rattle.desk_inputs.specs.Inputs.{derivation_file, proof_file, schema_file}
 use Rattle.desk_inputs.specs.Parts.{ArePartFiles, PartsStop, WithParts, part_file}
 use Rattle.desk_inputs.specs.Plans.{plan_file, plan_refusal_text}
@@ -200,6 +201,20 @@ module _ (names : List (List ℕ)) where
   after_parts r s are_names files each rest later =
       with_refuses names (PartsStop r s files) (ArePartFiles r s files) rest (parts_stop r s are_names files each)
       (λ parts are. later parts)
+
+  -- files of rows under names of their own, all of which are named
+  headed_files_stop : (r : Reading) (files : List (List ℕ)) → ((file : List ℕ) → Contains files file → Contains names file)
+      → RefusesSo names (HeadedFilesStop r files)
+  headed_files_stop r files each response (first, stops) refused =
+      let given = each first.name (listed files first.position first.name first.stands) in
+      file_refuses headed_file r first.name given (λ why. headed_refusal (codes "discover") first.name why refl given) response stops refused
+
+  pub after_headed_files : (r : Reading) (files : List (List ℕ)) → ((file : List ℕ) → Contains files file → Contains names file)
+      → (rest : List HeadedRows → Allowed) → ((heads : List HeadedRows) → RefusesSo names (rest heads))
+      → RefusesSo names (WithHeadedFiles r files rest)
+  after_headed_files r files each rest later =
+      with_refuses names (HeadedFilesStop r files) (AreHeadedFiles r files) rest (headed_files_stop r files each)
+      (λ heads are. later heads)
 
   -- ---- goals and sets
   -- a refusal of a word at its place

@@ -6,4 +6,5 @@ mod QuestionRefusals
 mod PlanRefusals
 mod FormRefusals
 mod RowRefusals
+mod ReferenceRefusals
 mod WordRefusals

@@ -18,10 +18,12 @@ use Rattle.desk_implication.specs.Derivations.{ChecksDerivation}
 use Rattle.desk_imports.specs.Columns.{ImportsColumns}
 use Rattle.desk_imports.specs.Imports.{ImportsTable}
 use Rattle.desk_inputs.specs.FileKinds.{WithFile}
-use Rattle.desk_inputs.specs.Headed.{imported, wholly_discovered}
+use Rattle.desk_inputs.specs.Headed.{headed_file, imported, wholly_discovered}
 use Rattle.desk_inputs.specs.Readings.{Reading}
 use Rattle.desk_inputs.specs.Rows.{rows_file}
 use Rattle.desk_measures.specs.Measures.{MeasuresRows}
+use Rattle.desk_references.specs.Checks.{ChecksReferences}
+use Rattle.desk_references.specs.Findings.{FindsReferences}
 use Rattle.desk_reports.specs.Reports.{ReportsPlan}
 use Rattle.desk_responses.specs.ResponseValues.{Allowed, ResponseValue, Says}
 use Rattle.desk_responses.specs.declared.status.Status.TheVariants.{Refused}
@@ -33,9 +35,11 @@ use Rattle.desk_words.specs.Forms as form
 use Rattle.desk_words.specs.Forms.{CommandForm, PlanQuestion, RowsQuestion, RulesQuestion, SchemaQuestion, Task, form_of}
 use Rattle.refusal_laws.specs.Refusals.{IsRefusal, names_of_command, names_of_task, names_of_words}
 use Rattle.refusal_laws.proofs.FileRefusals.{after_derivation, after_headed, after_parts, after_plan, after_proof, after_rows, after_schema, after_sql}
+use Rattle.refusal_laws.proofs.FileRefusals.{after_headed_files}
 use Rattle.refusal_laws.proofs.FormRefusals.{explained_fewest_refuses, fewest_refuses, form_of_all_refuses, forms_refuse}
 use Rattle.refusal_laws.proofs.PlanRefusals.{check_scripted, explained_split_refuses, explained_synthesis_refuses, form_drawn, form_into, form_placed, form_refuses, form_scripted, form_written, join_refuses, joined, keeping_refuses, measure_scripted, plan_drawn, plan_into, plan_placed, plan_scripted, plan_written, rows_refuse, sample_refuses, split_refuses, synthesis_refuses, wide_split_refuses}
 use Rattle.refusal_laws.proofs.QuestionRefusals.{basis_refuses, check_cover_refuses, closure_refuses, cover_refuses, derivation_refuses, exhibit_refuses, explained_cover_refuses, explained_keys_refuse, implication_refuses, key_refuses, keys_refuse, plan_keys_refuse, projection_refuses, proof_refuses, same_refuses}
+use Rattle.refusal_laws.proofs.ReferenceRefusals.{check_references_refuses, references_refuse}
 use Rattle.refusal_laws.proofs.RefusalLemmas.{RefusesSo, says_plain, says_yes}
 use Rattle.refusal_laws.proofs.RowRefusals.{all_rules_refuse, columns_refuse, import_refuses, kept_refuses, measure_refuses, near_rules_refuse, offences_by_row_refuse, offences_refuse, page_refuses, plan_page_refuses, row_keys_refuse, rules_refuse, small_rules_refuse}
 use Rattle.refusal_laws.proofs.TableTexts.{IsPlainIfGiven}
@@ -177,6 +181,15 @@ of_command looks r (form.discover question file) =
 of_command looks r (form.discover_all file) =
     after_headed (file ∷ []) r file (Contains-head file []) (codes "discover") wholly_discovered FindsAllRules refl
     (λ headed all. all_rules_refuse (file ∷ []) headed)
+of_command looks r (form.discover_references files) =
+    after_headed_files files r files (λ file given. given) (FindsReferences files) (references_refuse files files)
+of_command looks r (form.check_references file own other others) =
+    let names = file ∷ other ∷ [] in
+    after_headed names r file (Contains-head file (other ∷ [])) (codes "discover") discovered
+    (λ rows. WithFile headed_file r other (λ more. ChecksReferences rows own more others)) refl
+    (λ rows all.
+    after_headed names r other (Contains-later file (other ∷ []) other (Contains-head other [])) (codes "discover") discovered
+    (λ more. ChecksReferences rows own more others) refl (λ more also. check_references_refuses names rows own more others))
 of_command looks r (form.import_csv file) =
     after_headed (file ∷ []) r file (Contains-head file []) (codes "import") imported ImportsColumns refl
     (λ headed all. columns_refuse (file ∷ []) headed)

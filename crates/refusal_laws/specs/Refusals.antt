@@ -35,6 +35,8 @@ abbrev pub names_of_command : CommandForm → List (List ℕ)
 names_of_command (form.over_schema file task) = file ∷ names_of_task task
 names_of_command (form.discover question file) = file ∷ []
 names_of_command (form.discover_all file) = file ∷ []
+names_of_command (form.discover_references files) = files
+names_of_command (form.check_references file names other other_names) = file ∷ other ∷ []
 names_of_command (form.import_csv file) = file ∷ []
 names_of_command (form.import_sql dialect file table) = file ∷ []
 names_of_command (form.sample persons) = []

@@ -26,6 +26,14 @@ pub returns-in-DiscoverAll-clause-reads : goal.returns-in-DiscoverAll-clause-rea
 returns-in-DiscoverAll-clause-reads g c =
     subst (λ (command : Command). BeginsFront (files_of_command (command_form command)) (g.F.FileSource.begun c.args.source.now) (g.F.FileSource.begun c.of_whole.new.source)) (sym c.in-DiscoverAll.is) c.of_whole.ensures.reads
 
+pub returns-in-DiscoverReferences-clause-reads : goal.returns-in-DiscoverReferences-clause-reads
+returns-in-DiscoverReferences-clause-reads g c =
+    subst (λ (command : Command). BeginsFront (files_of_command (command_form command)) (g.F.FileSource.begun c.args.source.now) (g.F.FileSource.begun c.of_headed_files.new.source)) (sym c.in-DiscoverReferences.is) c.of_headed_files.ensures.reads
+
+pub returns-in-CheckReferences-clause-reads : goal.returns-in-CheckReferences-clause-reads
+returns-in-CheckReferences-clause-reads g c =
+    subst (λ (command : Command). BeginsFront (files_of_command (command_form command)) (g.F.FileSource.begun c.args.source.now) (g.F.FileSource.begun c.of_two_headed.new.source)) (sym c.in-CheckReferences.is) c.of_two_headed.ensures.reads
+
 pub returns-in-ImportCsv-clause-reads : goal.returns-in-ImportCsv-clause-reads
 returns-in-ImportCsv-clause-reads g c =
     subst (λ (command : Command). BeginsFront (files_of_command (command_form command)) (g.F.FileSource.begun c.args.source.now) (g.F.FileSource.begun c.of_imported.new.source)) (sym c.in-ImportCsv.is) c.of_imported.ensures.reads

@@ -1,0 +1,3 @@
+mod ColumnLemmas
+mod PrintedLemmas
+pub mod ReadingLemmas

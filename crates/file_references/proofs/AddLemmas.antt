@@ -1,0 +1,59 @@
+-- References added one after the other.
+use Rattle.std.specs.Prelude.{Contains}
+use Rattle.std.proofs.Common.{inl, inr, ◌≡◌, ◌⊎◌, ℕ, List, [], ◌∷◌, ◌++◌, length, map, get_or, sym, subst, ap, ◌∙◌, ⊎_elim, ◌<◌}
+use Rattle.std.proofs.lemmas.List.{get_or-map}
+use Rattle.std.proofs.lemmas.List.Elements.{Contains-append_left, Contains-push, Contains-push_cases}
+use Rattle.file_references.specs.Columns.{file_at, no_file}
+use Rattle.file_references.specs.Finds.{Adds}
+use Rattle.file_references.specs.References.{IsReference, Reference}
+use Rattle.headed_rows.specs.Headings.{HeadedRows, headed_of}
+use Rattle.headed_rows.specs.declared.headed_rows.Headed.{Headed}
+
+-- the file at a position
+pub file_here : (files : List Headed) (i : ℕ) (h : Headed) → i < length files → h ≡ get_or files i h
+    → file_at (map headed_of files) i ≡ headed_of h
+file_here files i h low is = get_or-map headed_of files i h no_file low ∙ ap headed_of (sym is)
+
+-- nothing was to be added
+pub adds_none : (files : List HeadedRows) (P : Reference → Type 0) (old : List Reference)
+    → ((ref : Reference) → IsReference files ref → P ref → ⊥) → Adds files P old old
+adds_none files P old none = record {
+  kept = λ ref has. has;
+  only = λ ref has. inl has;
+  all = λ ref is wanted. absurd (none ref is wanted);
+}
+
+-- one after the other
+pub adds_then : (files : List HeadedRows) (P Q R : Reference → Type 0) (old mid new : List Reference)
+    → ((ref : Reference) → IsReference files ref → R ref → P ref ⊎ Q ref) → Adds files P old mid → Adds files Q mid new
+    → Adds files R old new
+adds_then files P Q R old mid new parts first then_more = record {
+  kept = λ ref has. then_more.kept ref (first.kept ref has);
+  only = λ ref has. ⊎_elim (λ earlier. first.only ref earlier) (λ is. inr is) (then_more.only ref has);
+  all = λ ref is wanted. ⊎_elim (λ one. then_more.kept ref (first.all ref is one)) (λ other. then_more.all ref is other)
+      (parts ref is wanted);
+}
+
+-- fewer were wanted
+pub adds_fewer : (files : List HeadedRows) (P Q : Reference → Type 0) (old new : List Reference)
+    → ((ref : Reference) → IsReference files ref → Q ref → P ref) → Adds files P old new → Adds files Q old new
+adds_fewer files P Q old new fewer adds = record {
+  kept = adds.kept;
+  only = adds.only;
+  all = λ ref is wanted. adds.all ref is (fewer ref is wanted);
+}
+
+-- one reference
+pub adds_one : (files : List HeadedRows) (ref : Reference) (old : List Reference) → IsReference files ref
+    → Adds files (λ (other : Reference). other ≡ ref) old (old ++ ref ∷ [])
+adds_one files ref old is = record {
+  kept = λ other has. Contains-append_left old (ref ∷ []) other has;
+  only = λ other has. ⊎_elim (λ earlier. inl earlier) (λ same. inr (subst (IsReference files) same is)) (Contains-push_cases old ref other has);
+  all = λ other is_one same. subst (Contains (old ++ ref ∷ [])) (sym same) (Contains-push old ref);
+}
+
+-- what is none
+pub adds_no_one : (files : List HeadedRows) (ref : Reference) (old : List Reference) → (IsReference files ref → ⊥)
+    → Adds files (λ (other : Reference). other ≡ ref) old old
+adds_no_one files ref old no =
+    adds_none files (λ (other : Reference). other ≡ ref) old (λ other is same. no (subst (IsReference files) same is))

@@ -1,0 +1,10 @@
+pub mod ValueLemmas
+pub mod KeyLemmas
+pub mod SetLemmas
+pub mod AgreeLemmas
+pub mod AddLemmas
+pub mod TargetLemmas
+pub mod KnowsLemmas
+pub mod SourceLemmas
+pub mod OrderLemmas
+pub mod UnmatchedLemmas

@@ -1,0 +1,74 @@
+-- How references are found, one target after the other: for `all_references` and the functions below it.
+-- `Desk` does not cite it.
+use Rattle.std.specs.Prelude.{◌≡◌, ◌<◌, ◌⊎◌, ℕ, Some, List, length, map, Contains}
+use Rattle.std.specs.List.{AllZip}
+use Rattle.attr_sets.specs.Attributes.{Attributes, count_below}
+use Rattle.attr_sets.specs.Sets.{attributes}
+use Rattle.attr_sets.specs.declared.set.AttrSet.{AttrSet}
+use Rattle.attr_sets.specs.declared.set.TheConstants.{MOST_ATTRIBUTES}
+use Rattle.dep_model.specs.Projections.{members_below}
+use Rattle.dep_model.specs.Tuples.{Tuple, Relation}
+use Rattle.file_references.specs.Columns.{HasWholeRow, file_at, misses_none, name_at, values_on}
+use Rattle.file_references.specs.Keys.{AreLooked, AreValues, IsLooked, KnowsKeys}
+use Rattle.file_references.specs.References.{IsReference, IsTarget, Reference}
+use Rattle.file_references.specs.declared.reference.FoundReference.{FoundReference}
+use Rattle.file_references.specs.declared.targets.Target.{Target}
+use Rattle.headed_rows.specs.Headings.{HeadedRows}
+use Rattle.schema_model.specs.Schemas.{attribute_named}
+use Rattle.table_join.specs.Lent.{tuples_of}
+
+-- a reference of the code
+abbrev pub reference_of : FoundReference → Reference
+reference_of f = record { file = f.file; columns = f.columns.items; target = f.target; key = f.key.items }
+
+-- some references more: those that have P, and what is more is a reference
+pub record Adds (files : List HeadedRows) (P : Reference → Type 0) (old new : List Reference) : Type 0 where
+  pub kept : (ref : Reference) → Contains old ref → Contains new ref
+  pub only : (ref : Reference) → Contains new ref → Contains old ref ⊎ IsReference files ref
+  pub all : (ref : Reference) → IsReference files ref → P ref → Contains new ref
+
+-- the target of the code is one of the files, with its values
+pub record IsTargetOf (files : List HeadedRows) (target : Target) : Type 0 where
+  pub within : target.file < length files
+  pub target : IsTarget (length (file_at files target.file).names) (file_at files target.file).rows target.columns.items
+  pub values : AreValues (file_at files target.file).rows target.columns.items (tuples_of target.values.keys)
+
+-- it is referred to
+abbrev pub RefersTo : Target → Reference → Type 0
+RefersTo target ref = (ref.target ≡ target.file) × (ref.key ≡ target.columns.items)
+
+-- one of these sets of n columns of a file is referred to
+abbrev pub RefersToOne : ℕ → ℕ → List AttrSet → Reference → Type 0
+RefersToOne n file sets ref =
+    (ref.target ≡ file) × ((s : AttrSet) × Contains sets s × (ref.key ≡ members_below n (attributes s)))
+
+-- each row that misses none of its values at columns has them among these, and some row misses none
+pub record AllAre (r : Relation) (columns : List ℕ) (values : Relation) : Type 0 where
+  pub within : (t : Tuple) → Contains r t → misses_none columns t ≡ true → Contains values (values_on columns t)
+  pub some_row : HasWholeRow r columns
+
+-- columns of these names are named as those of others, ASCII case aside
+abbrev pub AreNamedAs : List (List ℕ) → List (List ℕ) → List ℕ → List ℕ → Type 0
+AreNamedAs names others columns key =
+    AllZip (λ column k. attribute_named names (name_at others k) ≡ Some column) columns key
+
+-- the keys of a file are known as far as they were looked for, and the references to them were added
+pub record KnowsTargets (files : List HeadedRows) (target : ℕ) (shared : Attributes) (size : ℕ) (sets : List AttrSet)
+    (first : List Reference) (keys : List AttrSet) (found : List Reference) : Type 0 where
+  pub known : KnowsKeys (length (file_at files target).names) (file_at files target).rows shared size sets keys
+  pub added : Adds files (RefersToOne (length (file_at files target).names) target keys) first found
+
+-- exactly the sets of so many columns of a file are looked at
+abbrev pub AreLookedIn : List HeadedRows → ℕ → Attributes → ℕ → List AttrSet → Type 0
+AreLookedIn files target shared size sets = AreLooked (length (file_at files target).names) shared size sets
+
+-- and one of them
+abbrev pub IsLookedIn : List HeadedRows → ℕ → Attributes → ℕ → AttrSet → Type 0
+IsLookedIn files target shared size s =
+    IsLooked (length (file_at files target).names) shared size (attributes s)
+    × (count_below (attributes s) MOST_ATTRIBUTES ≡ size)
+
+-- columns of a file and a target, as a reference
+abbrev pub refers_from : ℕ → List ℕ → Target → Reference
+refers_from file columns target =
+    record { file = file; columns = columns; target = target.file; key = target.columns.items }

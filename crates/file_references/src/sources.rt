@@ -1,0 +1,173 @@
+//! The sources that refer to a target.
+
+ghost use Rattle.std.specs.Prelude.{◌≡◌, ◌↔◌, ◌<◌, ℕ, List, length, map, All, IfOk, IsTrue, MatchOption, OnOk};
+ghost use Rattle.dep_model.specs.Tuples.{IsOver};
+ghost use Rattle.file_references.specs.Columns.{file_at};
+ghost use Rattle.file_references.specs.Finds.{Adds, AllAre, AreNamedAs, IsTargetOf, RefersTo, reference_of, refers_from};
+ghost use Rattle.file_references.specs.References.{IsCandidate};
+ghost use Rattle.headed_rows.specs.Headers.{IsColumnHeader};
+ghost use Rattle.headed_rows.specs.Headings.{headed_of};
+ghost use Rattle.table_join.specs.Lent.{tuples_of};
+
+use crate::reference::FoundReference;
+use crate::targets::Target;
+use crate::values::{Values, are_there, has_values, take_on};
+use dep_model::OutOfMemory;
+use headed_rows::Headed;
+use indexmap::IndexSet;
+use row_store::{Hashing, Rows};
+use schema_model::Name;
+use std::alloc::Global;
+use tokens::position_among;
+
+// Adds the references to a target.
+pub fn add_sources(
+    alloc: Global,
+    files: &[Headed],
+    target: &Target,
+    found: &mut Vec<FoundReference>,
+) -> Result<(), OutOfMemory>
+    requires header { All (λ h. IsColumnHeader h.names.items) files.now }
+    requires same_width { All (λ h. IsOver (length h.names.items) h.rows) files.now }
+    requires target { IsTargetOf (map headed_of files.now) target.now }
+    ensures added { OnOk result (Adds (map headed_of files.now) (RefersTo target.now)
+        (map reference_of found.old.items) (map reference_of found.new.items)) }
+{
+    for file in 0..files.len() {
+        if target.columns.len() == 1 {
+            add_columns(alloc, files, file, target, found)?;
+        } else {
+            add_namesakes(alloc, files, file, target, found)?;
+        }
+    }
+    Ok(())
+}
+
+// Adds the references from single columns of a file.
+fn add_columns(
+    alloc: Global,
+    files: &[Headed],
+    file: usize,
+    target: &Target,
+    found: &mut Vec<FoundReference>,
+) -> Result<(), OutOfMemory>
+    requires file { file < length files.now }
+    requires header { All (λ h. IsColumnHeader h.names.items) files.now }
+    requires same_width { All (λ h. IsOver (length h.names.items) h.rows) files.now }
+    requires target { IsTargetOf (map headed_of files.now) target.now }
+    requires one { length target.now.columns.items ≡ 1 }
+    ensures added { OnOk result (Adds (map headed_of files.now)
+        (λ ref. RefersTo target.now ref × (ref.file ≡ file))
+        (map reference_of found.old.items) (map reference_of found.new.items)) }
+{
+    for column in 0..files[file].names.len() {
+        if file != target.file || column != target.columns[0] {
+            let mut columns = Vec::new(alloc);
+            columns.push(column)?;
+            add_source(alloc, files, file, columns, target, found)?;
+        }
+    }
+    Ok(())
+}
+
+// Adds the reference from the columns of a file that are named as those of a target.
+fn add_namesakes(
+    alloc: Global,
+    files: &[Headed],
+    file: usize,
+    target: &Target,
+    found: &mut Vec<FoundReference>,
+) -> Result<(), OutOfMemory>
+    requires file { file < length files.now }
+    requires header { All (λ h. IsColumnHeader h.names.items) files.now }
+    requires same_width { All (λ h. IsOver (length h.names.items) h.rows) files.now }
+    requires target { IsTargetOf (map headed_of files.now) target.now }
+    requires several { length target.now.columns.items ≡ 1 → ⊥ }
+    ensures added { OnOk result (Adds (map headed_of files.now)
+        (λ ref. RefersTo target.now ref × (ref.file ≡ file))
+        (map reference_of found.old.items) (map reference_of found.new.items)) }
+{
+    if file == target.file {
+        return Ok(());
+    }
+    let names = &files[target.file].names;
+    match namesakes(alloc, &files[file].names, names, &target.columns)? {
+        None => Ok(()),
+        Some(columns) => add_source(alloc, files, file, columns, target, found),
+    }
+}
+
+// Adds a reference to a target, if it holds.
+fn add_source(
+    alloc: Global,
+    files: &[Headed],
+    file: usize,
+    columns: Vec<usize>,
+    target: &Target,
+    found: &mut Vec<FoundReference>,
+) -> Result<(), OutOfMemory>
+    requires file { file < length files.now }
+    requires columns { All (λ k. k < length (file_at (map headed_of files.now) file).names) columns.items }
+    requires same_width { All (λ h. IsOver (length h.names.items) h.rows) files.now }
+    requires target { IsTargetOf (map headed_of files.now) target.now }
+    requires candidate { IsCandidate (map headed_of files.now) (refers_from file columns.items target.now) }
+    ensures added { OnOk result (Adds (map headed_of files.now)
+        (λ ref. ref ≡ refers_from file columns.entry.items target.now)
+        (map reference_of found.old.items) (map reference_of found.new.items)) }
+{
+    if all_are(alloc, &files[file].rows, &columns, &target.values)? {
+        found.push(FoundReference {
+            file,
+            columns,
+            target: target.file,
+            key: Vec::from_slice(alloc, &target.columns)?,
+        })?;
+    }
+    Ok(())
+}
+
+// Whether each row that misses none of its values at columns has them among these, and some row misses none.
+fn all_are(
+    alloc: Global,
+    rows: &Rows,
+    columns: &[usize],
+    values: &IndexSet<Values, Hashing>,
+) -> Result<bool, OutOfMemory>
+    requires columns { All (λ t. All (λ k. k < length t) columns.now) rows.now }
+    ensures all { IfOk result (λ are. IsTrue are ↔ AllAre rows.now columns.now (tuples_of values.now.keys)) }
+{
+    let mut any_whole = false;
+    let mut read = Vec::new(alloc);
+    for row in 0..rows.len() {
+        take_on(&mut read, rows, row, columns)?;
+        if are_there(&read) {
+            if !has_values(values, &read) {
+                return Ok(false);
+            }
+            any_whole = true;
+        }
+    }
+    Ok(any_whole)
+}
+
+// The columns of these names that are named as columns of others, where each has one.
+fn namesakes(
+    alloc: Global,
+    names: &[Name],
+    others: &[Name],
+    columns: &[usize],
+) -> Result<Option<Vec<usize>>, OutOfMemory>
+    requires columns { All (λ k. k < length others.now) columns.now }
+    ensures named { IfOk result (λ found. MatchOption found
+        ((same : List ℕ) → AreNamedAs names.now others.now same columns.now → ⊥)
+        (λ same. AreNamedAs names.now others.now same.items columns.now)) }
+{
+    let mut found = Vec::with_capacity(alloc, columns.len())?;
+    for column in columns {
+        match position_among(names, others[*column].bytes()) {
+            Some(position) => found.push(position)?,
+            None => return Ok(None),
+        }
+    }
+    Ok(Some(found))
+}
