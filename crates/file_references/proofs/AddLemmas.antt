@@ -14,6 +14,9 @@ pub file_here : (files : List Headed) (i : ℕ) (h : Headed) → i < length file
     → file_at (map headed_of files) i ≡ headed_of h
 file_here files i h low is = get_or-map headed_of files i h no_file low ∙ ap headed_of (sym is)
 
+pub file_at_or : (files : List Headed) (i : ℕ) (h : Headed) → i < length files → file_at (map headed_of files) i ≡ headed_of (get_or files i h)
+file_at_or files i h low = get_or-map headed_of files i h no_file low
+
 -- nothing was to be added
 pub adds_none : (files : List HeadedRows) (P : Reference → Type 0) (old : List Reference)
     → ((ref : Reference) → IsReference files ref → P ref → ⊥) → Adds files P old old
@@ -55,5 +58,5 @@ adds_one files ref old is = record {
 -- what is none
 pub adds_no_one : (files : List HeadedRows) (ref : Reference) (old : List Reference) → (IsReference files ref → ⊥)
     → Adds files (λ (other : Reference). other ≡ ref) old old
-adds_no_one files ref old no =
-    adds_none files (λ (other : Reference). other ≡ ref) old (λ other is same. no (subst (IsReference files) same is))
+adds_no_one files ref old never =
+    adds_none files (λ (other : Reference). other ≡ ref) old (λ other is same. never (subst (IsReference files) same is))

@@ -1,7 +1,8 @@
 -- The targets of a file, one set of columns after the other, and one size after the other.
 use Rattle.std.specs.Prelude.{◌↔◌, All, Any, Contains, IsTrue, MatchBool}
-use Rattle.std.proofs.Common.{inl, inr, ◌≡◌, ◌+◌, ◌<◌, ◌≤◌, ◌⊎◌, ℕ, zero, suc, Bool, true, false, List, [], ◌∷◌, ◌++◌, length, get_or, Some, refl, sym, ap, subst, ◌∙◌, ⊎_elim, arith}
+use Rattle.std.proofs.Common.{inl, inr, ◌≡◌, ◌+◌, ◌<◌, ◌≤◌, ◌⊎◌, ℕ, zero, suc, Bool, true, false, List, [], ◌∷◌, ◌++◌, length, take, get_or, Some, refl, sym, ap, subst, ◌∙◌, ⊎_elim, arith}
 use Rattle.std.proofs.lemmas.List.Elements.{AllZip-get_or, length_all_zip}
+use Rattle.std.proofs.lemmas.List.{take_more}
 use Rattle.attr_sets.specs.Attributes.{Attributes, IsSubset, below}
 use Rattle.attr_sets.specs.Sets.{attributes}
 use Rattle.attr_sets.specs.declared.set.AttrSet.{AttrSet}
@@ -25,8 +26,8 @@ use Rattle.table_join.specs.Lent.{tuples_of}
 
 -- a test that decides chooses
 pub by_test : (b : Bool) (S P Q : Type 0) → IsTrue b ↔ S → (S → P) → ((S → ⊥) → Q) → MatchBool b P Q
-by_test true S P Q test yes no = yes (test.0 refl)
-by_test false S P Q test yes no = no (λ s. let wrong = test.1 s in cc)
+by_test true S P Q test holds fails = holds (test.0 refl)
+by_test false S P Q test holds fails = fails (λ s. let wrong = test.1 s in cc)
 
 module _ (files : List HeadedRows) (target : ℕ) where
   abbrev n : ℕ
@@ -58,11 +59,11 @@ module _ (files : List HeadedRows) (target : ℕ) where
         → HoldsKey r (members_below n (attributes s)) (tuples_of t.values.keys) → IsTargetOf files t
     is_target_of t inside low differ few looked free file columns holds = record {
       within = subst (λ (i : ℕ). i < length files) (sym file) inside;
-      target = subst (λ (i : ℕ). IsTarget (length (file_at files i).names) (file_at files i).rows t.columns.items) (sym file)
+      is_target = subst (λ (i : ℕ). IsTarget (length (file_at files i).names) (file_at files i).rows t.columns.items) (sym file)
           (subst (IsTarget n r) (sym columns)
           (new_target n r shared size sets keys low differ knows.known s few looked.0 looked.1 free holds.key));
       values = subst (λ (i : ℕ). AreValues (file_at files i).rows t.columns.items (tuples_of t.values.keys)) (sym file)
-          (subst (λ (ks : List ℕ). AreValues r ks (tuples_of t.values.keys)) (sym columns) holds.values);
+          (subst (λ (ks : List ℕ). AreValues r ks (tuples_of t.values.keys)) (sym columns) holds.exact);
     }
 
     pub is_new_key : n ≤ MOST_ATTRIBUTES → HasTwoRows r → IsLookedIn files target shared (size + 1) s
@@ -70,6 +71,13 @@ module _ (files : List HeadedRows) (target : ℕ) where
         → IsWholeKey r (members_below n (attributes s)) → IsRowKey n r (attributes s)
     is_new_key low differ looked free key =
         new_key n r shared size sets keys low differ knows.known s looked.0 looked.1 free key
+
+  -- one set more of a list
+  pub knows_more : (shared : Attributes) (size : ℕ) (sets : List AttrSet) (first : List Reference) (keys : List AttrSet) (found : List Reference)
+      (i : ℕ) (d : AttrSet) → i < length sets → KnowsTargets files target shared size (take i sets ++ get_or sets i d ∷ []) first keys found
+      → KnowsTargets files target shared size (take (i + 1) sets) first keys found
+  knows_more shared size sets first keys found i d low knows =
+      subst (λ (ss : List AttrSet). KnowsTargets files target shared size ss first keys found) (sym (take_more sets i d low)) knows
 
   -- ---- from size to size
   pub knows_first : (shared : Attributes) (keys : List AttrSet) (found : List Reference) → keys ≡ []

@@ -1,8 +1,9 @@
 -- Which columns refer to a target.
 use Rattle.std.specs.Prelude.{◌↔◌, All, Contains}
 use Rattle.std.specs.List.{AllZip}
-use Rattle.std.proofs.Common.{inl, inr, ◌≡◌, ◌+◌, ◌<◌, ◌⊎◌, ℕ, zero, suc, true, List, [], ◌∷◌, ◌++◌, length, get_or, Option, Some, None, refl, sym, ap, subst, ◌∙◌, ⊎_elim, arith}
-use Rattle.std.proofs.lemmas.List.Elements.{AllZip-get_or, length_all_zip}
+use Rattle.std.proofs.Common.{inl, inr, ◌≡◌, ◌+◌, ◌<◌, ◌⊎◌, ℕ, zero, suc, true, List, [], ◌∷◌, ◌++◌, length, take, get_or, Option, Some, None, refl, sym, ap, subst, ◌∙◌, ⊎_elim, arith}
+use Rattle.std.proofs.lemmas.List.Elements.{AllZip-get_or, AllZip-push, length_all_zip}
+use Rattle.std.proofs.lemmas.List.{take_more}
 use Rattle.std.proofs.lemmas.List.Quantifiers.{position-Some}
 use Rattle.dep_model.specs.Tuples.{Tuple, Relation}
 use Rattle.file_references.specs.Columns.{HasMatch, file_at, misses_none, name_at, values_on}
@@ -85,11 +86,19 @@ one_named names others (x ∷ xs) (y ∷ ys) (k ∷ key) first second =
     some_same : (a b : ℕ) → Some a ≡ Some b → a ≡ b
     some_same a b e = cc
 
+-- one column more
+pub named_more : (names others : List (List ℕ)) (found key : List ℕ) (i d : ℕ) (x : ℕ) → i < length key
+    → AreNamedAs names others found (take i key) → attribute_named names (name_at others (get_or key i d)) ≡ Some x
+    → AreNamedAs names others (found ++ x ∷ []) (take (i + 1) key)
+named_more names others found key i d x low before here =
+    subst (AreNamedAs names others (found ++ x ∷ [])) (sym (take_more key i d low))
+    (AllZip-push (λ (column k : ℕ). attribute_named names (name_at others k) ≡ Some column) found (take i key) x (get_or key i d) before here)
+
 -- a column that has no namesake
-pub not_named : (names others : List (List ℕ)) (columns key : List ℕ) (i : ℕ) → i < length key
-    → attribute_named names (name_at others (get_or key i 0)) ≡ None → AreNamedAs names others columns key → ⊥
-not_named names others columns key i low none named =
-    let here = AllZip-get_or (λ (column k : ℕ). attribute_named names (name_at others k) ≡ Some column) columns key i 0 0 named
+pub not_named : (names others : List (List ℕ)) (columns key : List ℕ) (i d : ℕ) → i < length key
+    → attribute_named names (name_at others (get_or key i d)) ≡ None → AreNamedAs names others columns key → ⊥
+not_named names others columns key i d low none named =
+    let here = AllZip-get_or (λ (column k : ℕ). attribute_named names (name_at others k) ≡ Some column) columns key i 0 d named
     (omega (arith, low, length_all_zip (λ (column k : ℕ). attribute_named names (name_at others k) ≡ Some column) columns key named)) in
     let wrong = sym none ∙ here in cc
 

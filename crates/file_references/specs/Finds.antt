@@ -1,6 +1,6 @@
 -- How references are found, one target after the other: for `all_references` and the functions below it.
 -- `Desk` does not cite it.
-use Rattle.std.specs.Prelude.{◌≡◌, ◌<◌, ◌⊎◌, ℕ, Some, List, length, map, Contains}
+use Rattle.std.specs.Prelude.{◌≡◌, ◌<◌, ◌⊎◌, ℕ, true, Some, List, length, map, Contains}
 use Rattle.std.specs.List.{AllZip}
 use Rattle.attr_sets.specs.Attributes.{Attributes, count_below}
 use Rattle.attr_sets.specs.Sets.{attributes}
@@ -30,7 +30,7 @@ pub record Adds (files : List HeadedRows) (P : Reference → Type 0) (old new : 
 -- the target of the code is one of the files, with its values
 pub record IsTargetOf (files : List HeadedRows) (target : Target) : Type 0 where
   pub within : target.file < length files
-  pub target : IsTarget (length (file_at files target.file).names) (file_at files target.file).rows target.columns.items
+  pub is_target : IsTarget (length (file_at files target.file).names) (file_at files target.file).rows target.columns.items
   pub values : AreValues (file_at files target.file).rows target.columns.items (tuples_of target.values.keys)
 
 -- it is referred to

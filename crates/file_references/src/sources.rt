@@ -112,7 +112,7 @@ fn add_source(
     requires target { IsTargetOf (map headed_of files.now) target.now }
     requires candidate { IsCandidate (map headed_of files.now) (refers_from file columns.items target.now) }
     ensures added { OnOk result (Adds (map headed_of files.now)
-        (λ ref. ref ≡ refers_from file columns.entry.items target.now)
+        (λ ref. ref ≡ refers_from file columns.items target.now)
         (map reference_of found.old.items) (map reference_of found.new.items)) }
 {
     if all_are(alloc, &files[file].rows, &columns, &target.values)? {
