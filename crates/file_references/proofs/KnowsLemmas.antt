@@ -12,7 +12,7 @@ use Rattle.dep_model.specs.Tuples.{Relation}
 use Rattle.dep_model.proofs.SchemeLemmas.{length-members_below}
 use Rattle.fd_search.specs.Keys.{IsRowKey}
 use Rattle.file_references.specs.Columns.{file_at, name_at}
-use Rattle.file_references.specs.Finds.{Adds, AreLookedIn, AreNamedAs, IsLookedIn, IsTargetOf, KnowsTargets, RefersTo, RefersToOne}
+use Rattle.file_references.specs.Finds.{Adds, AreLookedIn, AreNamedAs, IsLookedIn, IsTargetOf, IsTo, KnowsTargets, RefersTo, RefersToOne}
 use Rattle.file_references.specs.Keys.{AreValues, HoldsKey, IsWholeKey}
 use Rattle.file_references.specs.References.{AreNamesakes, HasTwoRows, IsOneColumn, IsReference, IsTarget, Reference}
 use Rattle.file_references.specs.declared.reference.TheConstants.{MOST_KEY_COLUMNS}
@@ -123,9 +123,9 @@ module _ (files : List HeadedRows) (target : ℕ) where
   pub all_known : (shared : Attributes) (first : List Reference) (keys : List AttrSet) (found : List Reference) → n ≤ MOST_ATTRIBUTES
       → ((file k x : ℕ) → file < length files → (file ≡ target → ⊥) → k < n
       → attribute_named (file_at files file).names (name_at (file_at files target).names k) ≡ Some x → shared k ≡ true)
-      → KnowsTargets files target shared 3 [] first keys found → Adds files (λ (ref : Reference). ref.target ≡ target) first found
+      → KnowsTargets files target shared 3 [] first keys found → Adds files (IsTo target) first found
   all_known shared first keys found low all knows =
-      adds_fewer files (RefersToOne n target keys) (λ (ref : Reference). ref.target ≡ target) first found
+      adds_fewer files (RefersToOne n target keys) (IsTo target) first found
       (λ ref is to. (
         to,
         target_known n r shared 3 keys ref.key low (omega arith) knows.known
@@ -134,8 +134,8 @@ module _ (files : List HeadedRows) (target : ℕ) where
       )) knows.added
 
   -- where no two rows differ, there is no target
-  pub none_known : (found : List Reference) → (HasTwoRows r → ⊥) → Adds files (λ (ref : Reference). ref.target ≡ target) found found
-  none_known found alike = adds_none files (λ (ref : Reference). ref.target ≡ target) found (λ ref is to.
+  pub none_known : (found : List Reference) → (HasTwoRows r → ⊥) → Adds files (IsTo target) found found
+  none_known found alike = adds_none files (IsTo target) found (λ ref is to.
       alike (subst (λ (i : ℕ). HasTwoRows (file_at files i).rows) to is.candidate.target.differ))
 
 -- the columns of a target, where they are these
