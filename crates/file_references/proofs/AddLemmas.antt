@@ -1,6 +1,6 @@
 -- References added one after the other.
 use Rattle.std.specs.Prelude.{Contains}
-use Rattle.std.proofs.Common.{inl, inr, ◌≡◌, ◌⊎◌, ℕ, List, [], ◌∷◌, ◌++◌, length, map, get_or, sym, subst, ap, ◌∙◌, ⊎_elim, ◌<◌}
+use Rattle.std.proofs.Common.{inl, inr, ◌≡◌, ◌⊎◌, ℕ, List, [], ◌∷◌, ◌++◌, length, map, get_or, Result, Ok, Err, OnOk, sym, subst, ap, ◌∙◌, ⊎_elim, ◌<◌}
 use Rattle.std.proofs.lemmas.List.{get_or-map, map-append}
 use Rattle.std.proofs.lemmas.List.Elements.{Contains-append_left, Contains-push, Contains-push_cases}
 use Rattle.file_references.specs.Columns.{file_at, no_file}
@@ -71,3 +71,8 @@ pushed_reference old new x file columns target is file_is columns_are target_is 
     ap (map reference_of) is ∙ map-append reference_of old (x ∷ [])
     ∙ ap (λ (ref : Reference). map reference_of old ++ ref ∷ [])
     (λ i. record { file = file_is i; columns = columns_are i; target = target_is i; key = key_is i })
+
+-- what follows where a call ends well
+pub when_done : {E : Type 0} (r : Result (Unit {0}) E) (P Q : Type 0) → (P → Q) → OnOk r P → OnOk r Q
+when_done (Ok x) P Q f h = f h
+when_done (Err e) P Q f h = tt

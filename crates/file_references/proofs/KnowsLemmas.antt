@@ -29,6 +29,16 @@ pub by_test : (b : Bool) (S P Q : Type 0) → IsTrue b ↔ S → (S → P) → (
 by_test true S P Q test holds fails = holds (test.0 refl)
 by_test false S P Q test holds fails = fails (λ s. let wrong = test.1 s in cc)
 
+-- the same of equal rows and columns
+pub moved_key : (r s : Relation) (columns others : List ℕ) → r ≡ s → columns ≡ others → IsWholeKey r columns → IsWholeKey s others
+moved_key r s columns others rows_are columns_are key =
+    subst (IsWholeKey s) columns_are (subst (λ (t : Relation). IsWholeKey t columns) rows_are key)
+
+pub moved_hold : (r s : Relation) (columns others : List ℕ) (values : Relation) → r ≡ s → columns ≡ others → HoldsKey r columns values
+    → HoldsKey s others values
+moved_hold r s columns others values rows_are columns_are holds =
+    subst (λ (cs : List ℕ). HoldsKey s cs values) columns_are (subst (λ (t : Relation). HoldsKey t columns values) rows_are holds)
+
 module _ (files : List HeadedRows) (target : ℕ) where
   abbrev n : ℕ
   n = length (file_at files target).names

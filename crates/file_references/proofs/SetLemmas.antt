@@ -267,3 +267,6 @@ has_member n x k low has = (
   omega (arith, count_below-before_member n k x low has, length-members_below n x),
   members_below-at n x k k low has,
 )
+
+pub members_low : (n : ℕ) (x : Attributes) → All (λ (k : ℕ). k < n) (members_below n x)
+members_low n x = All-members (λ (k : ℕ). k < n) (members_below n x) (λ k has. (member_of n x k has).0)

@@ -143,6 +143,14 @@ named_more names others found key i d x low before here =
     subst (AreNamedAs names others (found ++ x ∷ [])) (sym (take_more key i d low))
     (AllZip-push (λ (column k : ℕ). attribute_named names (name_at others k) ≡ Some column) found (take i key) x (get_or key i d) before here)
 
+-- the same of equal names and columns
+pub moved_names : (names these others those : List (List ℕ)) (columns key keys : List ℕ) → names ≡ these → others ≡ those → key ≡ keys
+    → AreNamedAs names others columns key → AreNamedAs these those columns keys
+moved_names names these others those columns key keys first second third named =
+    subst (λ (ns : List (List ℕ)). AreNamedAs ns those columns keys) first
+    (subst (λ (ns : List (List ℕ)). AreNamedAs names ns columns keys) second
+    (subst (AreNamedAs names others columns) third named))
+
 -- a column that has no namesake
 pub not_named : (names others : List (List ℕ)) (columns key : List ℕ) (i d : ℕ) → i < length key
     → attribute_named names (name_at others (get_or key i d)) ≡ None → AreNamedAs names others columns key → ⊥
