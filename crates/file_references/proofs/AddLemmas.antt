@@ -1,6 +1,6 @@
 -- References added one after the other.
 use Rattle.std.specs.Prelude.{Contains}
-use Rattle.std.proofs.Common.{inl, inr, ◌≡◌, ◌⊎◌, ℕ, List, [], ◌∷◌, ◌++◌, length, map, get_or, Result, Ok, Err, OnOk, sym, subst, ap, ◌∙◌, ⊎_elim, ◌<◌}
+use Rattle.std.proofs.Common.{inl, inr, ◌≡◌, ◌⊎◌, ℕ, List, [], ◌∷◌, ◌++◌, length, map, get_or, Result, Ok, Err, OnOk, sym, subst, ap, ◌∙◌, ⊎_elim, ◌<◌, vec_len, arith}
 use Rattle.std.proofs.lemmas.List.{get_or-map, map-append}
 use Rattle.std.proofs.lemmas.List.Elements.{Contains-append_left, Contains-push, Contains-push_cases}
 use Rattle.file_references.specs.Columns.{file_at, no_file}
@@ -18,6 +18,10 @@ file_here files i h low is = get_or-map headed_of files i h no_file low ∙ ap h
 
 pub file_at_or : (files : List Headed) (i : ℕ) (h : Headed) → i < length files → file_at (map headed_of files) i ≡ headed_of (get_or files i h)
 file_at_or files i h low = get_or-map headed_of files i h no_file low
+
+-- its names, counted
+pub counted : (files : List Headed) (i : ℕ) (h : Headed) → vec_len (get_or files i h).names ≡ length (get_or files i h).names.items
+counted files i h = omega (arith, (get_or files i h).names.ok.0)
 
 -- nothing was to be added
 pub adds_none : (files : List HeadedRows) (P : Reference → Type 0) (old : List Reference)

@@ -1,11 +1,12 @@
 -- What is left to prove of `add_columns`: that a round of its loop keeps the invariant, and its clause `added`, by
 -- `SourceLemmas`.
 use Rattle.std.proofs.Common.{◌≡◌, ◌<◌, ◌+◌, ◌++◌, ◌∷◌, [], ℕ, List, get_or, length, map, ap, sym, subst, ◌∙◌, arith}
+use Rattle.std.proofs.lemmas.List.{length-map}
 use Rattle.dep_model.proofs.ListLemmas.{same_default}
 use Rattle.file_references.specs.Columns.{file_at}
 use Rattle.file_references.specs.Finds.{Adds, RefersFromColumns, reference_of}
 use Rattle.file_references.specs.References.{Reference}
-use Rattle.file_references.proofs.AddLemmas.{file_at_or}
+use Rattle.file_references.proofs.AddLemmas.{counted, file_at_or}
 use Rattle.file_references.proofs.SourceLemmas.{columns_all, columns_more, columns_same, one_candidate}
 use Rattle.headed_rows.specs.Headings.{HeadedRows, headed_of}
 use Rattle.file_references.proofs.sources.add_columns.Goals as goal
@@ -22,7 +23,9 @@ loop-column-preserved c = record {
       let old = map reference_of c.args.found.now.items in
       let now = map reference_of c.loop-column.found.items in
       let width = ap (λ (h : HeadedRows). length h.names) (file_at_or c.args.files.now file c.index-files-file.result c.requires.file) in
-      let low : column < length (file_at files file).names = omega (arith, c.loop-column-test.true, c.len-column-end.ensures, width) in
+      let count = counted c.args.files.now c.args.file c.index-files-file.result in
+      let low : column < length (file_at files file).names = omega (arith, c.loop-column-test.true, c.len-column-end.ensures, count, width) in
+      let inside : file < length files = omega (arith, c.requires.file, length-map c.args.files.now headed_of) in
       elim c.if-file-target.branch [
         | then-file-target+in_ok-push+in_ok-add_source w ↦
             let is : w.push.new.self.items ≡ column ∷ [] = w.in_ok-push.ensures.items ∙ ap (λ (l : List ℕ). l ++ column ∷ []) w.new-columns.ensures.items in
@@ -35,7 +38,7 @@ loop-column-preserved c = record {
             subst (Adds files (RefersFromColumns target file (column + 1)) old) (sym (ap (λ v. map reference_of v.items) w.found-is))
             (columns_more files file column w.push.new.self.items target old now (map reference_of w.add_source.new.found.items) is
             (c.loop-column.invariant.adds of)
-            (w.in_ok-add_source.ensures.added of (one_candidate files file column w.push.new.self.items target of c.requires.file low c.requires.one other is)))
+            (w.in_ok-add_source.ensures.added of (one_candidate files file column w.push.new.self.items target of inside low c.requires.one other is)))
         | else-file-target+else-column-index w ↦
             let read = same_default key 0 w.index.result.now 0 (omega (arith, c.requires.one)) in
             subst (Adds files (RefersFromColumns target file (column + 1)) old) (sym (ap (λ v. map reference_of v.items) w.found-is))
@@ -49,6 +52,7 @@ returns c = record {
   added = λ of.
       let files = map headed_of c.args.files.now in
       let width = ap (λ (h : HeadedRows). length h.names) (file_at_or c.args.files.now c.args.file c.index-files-file.result c.requires.file) in
+      let count = counted c.args.files.now c.args.file c.index-files-file.result in
       columns_all files c.args.file c.loop-column.column c.args.target.now (map reference_of c.args.found.now.items) (map reference_of c.loop-column.found.items) c.requires.one
-      (omega (arith, c.loop-column-test.false, c.loop-column.auto.column-end, c.len-column-end.ensures, width)) (c.loop-column.invariant.adds of);
+      (omega (arith, c.loop-column-test.false, c.loop-column.auto.column-end, c.len-column-end.ensures, count, width)) (c.loop-column.invariant.adds of);
 }
