@@ -5,7 +5,7 @@ use Rattle.std.specs.Cmp.{IsEquivalence, IsTotalOrder}
 use Rattle.std.specs.Cmp.Lexicographic.{pointwise, slice_cmp}
 use Rattle.std.specs.List.Sorted.{IsPermutation, IsSorted, IsStrictlySortedBy}
 use Rattle.std.specs.Ordering.{eq_by_cmp, nat_cmp, ordering_then}
-use Rattle.std.proofs.Common.{inl, inr, ◌≡◌, ◌<◌, ◌⊎◌, ◌&&◌, ◌==◌, ℕ, Bool, true, false, nat_eq, cond, nat_lt, List, [], ◌∷◌, length, map, Ordering, Less, Equal, Greater, is_eq, refl, sym, ap, subst, ◌∙◌, ⊎_elim, arith}
+use Rattle.std.proofs.Common.{inl, inr, ◌≡◌, ◌<◌, ◌⊎◌, ◌&&◌, ◌==◌, ℕ, Bool, true, false, nat_eq, cond, nat_lt, List, [], ◌∷◌, length, map, get_or, Ordering, Less, Equal, Greater, is_eq, refl, sym, ap, subst, ◌∙◌, ⊎_elim, arith}
 use Rattle.std.proofs.lemmas.Bool.{and_parts, cases_lt, cases_order, eqb-true}
 use Rattle.std.proofs.lemmas.Bool.Decides.{nat_tests}
 use Rattle.std.proofs.lemmas.Cmp.{and_equiv, nat_cmp_total, nat_eq_equiv, nat_list_cmp_total, nat_list_eq_equiv, on_equiv, on_total, then_total}
@@ -133,7 +133,7 @@ unfolding IsStrictlySortedBy
 pairs_precede [] h = no_pairs (λ (x y : FoundReference). Precedes (reference_of x) (reference_of y))
 pairs_precede (y ∷ ys) h =
     AllPairs-cons (λ (a b : FoundReference). Precedes (reference_of a) (reference_of b)) y ys
-    (λ i d l. precedes y _ (All-from_recursion (λ (z : FoundReference). order y z ≡ Less) ys h.0 i d l)) (pairs_precede ys h.1)
+    (λ i d l. precedes y (get_or ys i d) (All-from_recursion (λ (z : FoundReference). order y z ≡ Less) ys h.0 i d l)) (pairs_precede ys h.1)
 
 pub all_precede : (xs : List FoundReference) → IsStrictlySortedBy order xs → AllPairs Precedes (map reference_of xs)
 all_precede xs sorted = pairs_map Precedes reference_of xs (pairs_precede xs sorted)

@@ -30,13 +30,13 @@ add_targets-requires-clause-two c =
     subst HasTwoRows (sym (ap (λ (h : HeadedRows). h.rows) (file_at_or c.args.files.now c.args.target c.index-files-target.result c.requires.target)))
     (c.have_two.ensures.two.0 c.if-not-have_two.false)
 
-pub add_targets-2-requires-clause-two : goal.add_targets-2-requires-clause-two
-add_targets-2-requires-clause-two c =
+pub add_targets-requires-2-clause-two : goal.add_targets-requires-2-clause-two
+add_targets-requires-2-clause-two c =
     subst HasTwoRows (sym (ap (λ (h : HeadedRows). h.rows) (file_at_or c.args.files.now c.args.target c.index-files-target.result c.requires.target)))
     (c.have_two.ensures.two.0 c.if-not-have_two.false)
 
-pub add_targets-3-requires-clause-two : goal.add_targets-3-requires-clause-two
-add_targets-3-requires-clause-two c =
+pub add_targets-requires-3-clause-two : goal.add_targets-requires-3-clause-two
+add_targets-requires-3-clause-two c =
     subst HasTwoRows (sym (ap (λ (h : HeadedRows). h.rows) (file_at_or c.args.files.now c.args.target c.index-files-target.result c.requires.target)))
     (c.have_two.ensures.two.0 c.if-not-have_two.false)
 
@@ -47,7 +47,7 @@ returns c =
     let first = map reference_of c.args.found.now.items in
     let here = file_at_or c.args.files.now target c.index-files-target-2.result c.requires.target in
     let n = length (file_at files target).names in
-    let shared = attributes c.shared_columns.result in
+    let shared = attributes c.shared_columns-shared.result in
     let width : c.len-width.result ≡ n = omega (arith, c.len-width.ensures, counted c.args.files.now target c.index-files-target-2.result, ap (λ (f : HeadedRows). length f.names) here) in
     let low : n ≤ MOST_ATTRIBUTES = omega (arith, ap (λ (f : HeadedRows). length f.names) here,
     (c.requires.header target c.index-files-target-2.result c.requires.target).within_limit) in
@@ -61,11 +61,11 @@ returns c =
     (looked_one n shared _ (subst (AreAllOfSize (below n) 1) (sym c.deref.ensures.value) ones))
     (knows_first files target shared _ first c.new-keys.ensures.items) in
     let at_two = c.in_ok-add_targets-2.ensures.knows shared 1 first (omega arith)
-    (looked_more n shared 2 _ (omega arith) c.shared_columns.ensures.within (subst (AreAllOfSize shared 2) (sym c.deref-3.ensures.value) twos)) at_one in
+    (looked_more n shared 2 _ (omega arith) c.shared_columns-shared.ensures.within (subst (AreAllOfSize shared 2) (sym c.deref-3.ensures.value) twos)) at_one in
     record {
       added = on_ok_weaker c.add_targets-3.result
           (all_known files target shared first c.add_targets-3.new.keys.items (map reference_of c.add_targets-3.new.found.items) low
-          (λ file k x inside. c.shared_columns.ensures.shared file k x (omega (arith, inside, length-map c.args.files.now headed_of))))
+          (λ file k x inside. c.shared_columns-shared.ensures.shared file k x (omega (arith, inside, length-map c.args.files.now headed_of))))
           (c.add_targets-3.ensures.knows shared 2 first (omega arith)
-          (looked_more n shared 3 _ (omega arith) c.shared_columns.ensures.within (subst (AreAllOfSize shared 3) (sym c.deref-5.ensures.value) threes)) at_two);
+          (looked_more n shared 3 _ (omega arith) c.shared_columns-shared.ensures.within (subst (AreAllOfSize shared 3) (sym c.deref-5.ensures.value) threes)) at_two);
     }

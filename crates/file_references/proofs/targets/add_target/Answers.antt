@@ -1,5 +1,5 @@
 -- What is left to prove of `add_target`: what it asks of its callees, and its clause `knows`, by `KnowsLemmas`.
-use Rattle.std.proofs.Common.{true≢false, ◌≡◌, ◌<◌, ◌≤◌, ℕ, List, [], get_or, length, map, refl, ap, sym, subst, ◌∙◌, arith}
+use Rattle.std.proofs.Common.{true≢false, ◌≡◌, ◌<◌, ◌≤◌, ℕ, List, [], ◌∷◌, ◌++◌, get_or, length, map, refl, ap, sym, subst, ◌∙◌, arith}
 use Rattle.std.specs.Prelude.{All, Any}
 use Rattle.std.proofs.lemmas.List.{length-map}
 use Rattle.std.proofs.lemmas.Option.{MatchOption-at_none, MatchOption-at_some}
@@ -12,8 +12,10 @@ use Rattle.dep_model.specs.Projections.{members_below}
 use Rattle.dep_model.specs.Tuples.{IsOver, Relation}
 use Rattle.dep_model.proofs.ListLemmas.{same_default}
 use Rattle.file_references.specs.Columns.{file_at}
-use Rattle.file_references.specs.Finds.{Adds, KnowsTargets, reference_of}
+use Rattle.file_references.specs.Finds.{Adds, KnowsTargets, RefersTo, reference_of}
+use Rattle.file_references.specs.References.{Reference}
 use Rattle.file_references.specs.Keys.{HoldsKey, IsWholeKey}
+use Rattle.file_references.specs.declared.targets.Target.{Target}
 use Rattle.file_references.proofs.AddLemmas.{adds_fewer, counted, file_at_or}
 use Rattle.file_references.proofs.KnowsLemmas.{is_new_key, is_target_of, knows_new, knows_same, moved_hold, moved_key, refers_to_set}
 use Rattle.file_references.proofs.SetLemmas.{members_low}
@@ -86,11 +88,12 @@ returns-in_ok-push-in-Some c = record {
       let free : Any (λ (k : AttrSet). IsSubset (attributes k) x) c.args.keys.now.items → ⊥ = λ any. true≢false
       (sym (c.has_within.ensures.has.1 (subst (λ (ks : List AttrSet). Any (λ (k : AttrSet). IsSubset (attributes k) x) ks) (sym c.deref.ensures.value) any)) ∙ c.if-has_within.false) in
       let key = is_new_key files target shared size sets first c.args.keys.now.items found c.args.set start low c.requires.two looked free holds.key in
-      let of = is_target_of files target shared size sets first c.args.keys.now.items found c.args.set start (record { file = target; columns = c.in_ok-columns.columns; values = c.in-Some.values })
+      let t : Target = record { file = target; columns = c.in_ok-columns.columns; values = c.in-Some.values } in
+      let of = is_target_of files target shared size sets first c.args.keys.now.items found c.args.set start t
       (omega (arith, c.requires.target, length-map c.args.files.now headed_of)) low c.requires.two few looked free refl columns holds in
-      on_ok_weaker c.add_sources.result (λ adds. subst (λ (ks : List AttrSet). KnowsTargets files target shared size _ first ks (map reference_of c.add_sources.new.found.items))
+      on_ok_weaker c.add_sources.result (λ adds. subst (λ (ks : List AttrSet). KnowsTargets files target shared size (sets ++ c.args.set ∷ []) first ks (map reference_of c.add_sources.new.found.items))
       (sym c.in_ok-push-in-Some.ensures.items)
       (knows_new files target shared size sets first c.args.keys.now.items found c.args.set start key (map reference_of c.add_sources.new.found.items)
-      (adds_fewer files _ _ found (map reference_of c.add_sources.new.found.items) (λ ref is to. refers_to_set _ n target x refl columns ref to) adds)))
+      (adds_fewer files (RefersTo t) (λ (ref : Reference). (ref.target ≡ target) × (ref.key ≡ members_below n x)) found (map reference_of c.add_sources.new.found.items) (λ ref is to. refers_to_set t n target x refl columns ref to) adds)))
       (c.add_sources.ensures.added of);
 }
