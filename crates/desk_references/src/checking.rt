@@ -124,12 +124,7 @@ fn unmatched_text(
 }
 
 // How many rows have no match, and the number of the first.
-fn add_count(
-    text: &mut Vec<u8>,
-    alloc: Global,
-    count: u32,
-    first: u32,
-) -> Result<(), OutOfMemory>
+fn add_count(text: &mut Vec<u8>, alloc: Global, count: u32, first: u32) -> Result<(), OutOfMemory>
     ensures added { OnOk result (text.new.items ≡ text.old.items ++ count_text count first) }
 {
     if count == 1 {

@@ -1,10 +1,12 @@
 -- References added one after the other.
 use Rattle.std.specs.Prelude.{Contains}
-use Rattle.std.proofs.Common.{inl, inr, ◌≡◌, ◌⊎◌, ℕ, List, [], ◌∷◌, ◌++◌, length, map, get_or, sym, subst, ap, ◌∙◌, ⊎_elim, ◌<◌}
-use Rattle.std.proofs.lemmas.List.{get_or-map}
+use Rattle.std.proofs.Common.{inl, inr, ◌≡◌, ◌⊎◌, ℕ, List, [], ◌∷◌, ◌++◌, length, map, get_or, Result, Ok, Err, OnOk, sym, subst, ap, ◌∙◌, ⊎_elim, ◌<◌, vec_len, arith}
+use Rattle.std.proofs.lemmas.List.{get_or-map, map-append}
 use Rattle.std.proofs.lemmas.List.Elements.{Contains-append_left, Contains-push, Contains-push_cases}
 use Rattle.file_references.specs.Columns.{file_at, no_file}
-use Rattle.file_references.specs.Finds.{Adds}
+use Rattle.file_references.specs.Finds.{Adds, IsThis, reference_of, refers_from}
+use Rattle.file_references.specs.declared.reference.FoundReference.{FoundReference}
+use Rattle.file_references.specs.declared.targets.Target.{Target}
 use Rattle.file_references.specs.References.{IsReference, Reference}
 use Rattle.headed_rows.specs.Headings.{HeadedRows, headed_of}
 use Rattle.headed_rows.specs.declared.headed_rows.Headed.{Headed}
@@ -13,6 +15,13 @@ use Rattle.headed_rows.specs.declared.headed_rows.Headed.{Headed}
 pub file_here : (files : List Headed) (i : ℕ) (h : Headed) → i < length files → h ≡ get_or files i h
     → file_at (map headed_of files) i ≡ headed_of h
 file_here files i h low is = get_or-map headed_of files i h no_file low ∙ ap headed_of (sym is)
+
+pub file_at_or : (files : List Headed) (i : ℕ) (h : Headed) → i < length files → file_at (map headed_of files) i ≡ headed_of (get_or files i h)
+file_at_or files i h low = get_or-map headed_of files i h no_file low
+
+-- its names, counted
+pub counted : (files : List Headed) (i : ℕ) (h : Headed) → vec_len (get_or files i h).names ≡ length (get_or files i h).names.items
+counted files i h = omega (arith, (get_or files i h).names.ok.0)
 
 -- nothing was to be added
 pub adds_none : (files : List HeadedRows) (P : Reference → Type 0) (old : List Reference)
@@ -45,7 +54,7 @@ adds_fewer files P Q old new fewer adds = record {
 
 -- one reference
 pub adds_one : (files : List HeadedRows) (ref : Reference) (old : List Reference) → IsReference files ref
-    → Adds files (λ (other : Reference). other ≡ ref) old (old ++ ref ∷ [])
+    → Adds files (IsThis ref) old (old ++ ref ∷ [])
 adds_one files ref old is = record {
   kept = λ other has. Contains-append_left old (ref ∷ []) other has;
   only = λ other has. ⊎_elim (λ earlier. inl earlier) (λ same. inr (subst (IsReference files) same is)) (Contains-push_cases old ref other has);
@@ -54,6 +63,20 @@ adds_one files ref old is = record {
 
 -- what is none
 pub adds_no_one : (files : List HeadedRows) (ref : Reference) (old : List Reference) → (IsReference files ref → ⊥)
-    → Adds files (λ (other : Reference). other ≡ ref) old old
-adds_no_one files ref old no =
-    adds_none files (λ (other : Reference). other ≡ ref) old (λ other is same. no (subst (IsReference files) same is))
+    → Adds files (IsThis ref) old old
+adds_no_one files ref old never =
+    adds_none files (IsThis ref) old (λ other is same. never (subst (IsReference files) same is))
+
+-- a reference of the code was pushed
+pub pushed_reference : (old new : List FoundReference) (x : FoundReference) (file : ℕ) (columns : List ℕ) (target : Target)
+    → new ≡ old ++ x ∷ [] → x.file ≡ file → x.columns.items ≡ columns → x.target ≡ target.file → x.key.items ≡ target.columns.items
+    → map reference_of new ≡ map reference_of old ++ refers_from file columns target ∷ []
+pushed_reference old new x file columns target is file_is columns_are target_is key_is =
+    ap (map reference_of) is ∙ map-append reference_of old (x ∷ [])
+    ∙ ap (λ (ref : Reference). map reference_of old ++ ref ∷ [])
+    (λ i. record { file = file_is i; columns = columns_are i; target = target_is i; key = key_is i })
+
+-- what follows where a call ends well
+pub when_done : {E : Type 0} (r : Result (Unit {0}) E) (P Q : Type 0) → (P → Q) → OnOk r P → OnOk r Q
+when_done (Ok x) P Q f h = f h
+when_done (Err e) P Q f h = tt

@@ -166,12 +166,41 @@ module _ (r : Relation) (columns : List ℕ) (i : ℕ) (values : Relation) (firs
       ];
     }
 
+-- ---- what a set of values does with those of the row
+module _ (r : Relation) (columns : List ℕ) (i : ℕ) (values : Relation) (firsts : List ℕ)
+    (old : HoldsKeySoFar r columns i values firsts) (after : Relation) (place : ℕ) (v : Tuple)
+    (read : v ≡ values_on columns (row_at r i)) (gets : Gets v values after place) where
+  -- they are new
+  pub gets_new : misses_none columns (row_at r i) ≡ true → place ≡ length firsts → (more : List ℕ) → more ≡ firsts ++ i ∷ []
+      → HoldsKeySoFar r columns (i + 1) after more
+  gets_new here last more is = elim gets.number [
+    | inl same ↦ absurd (omega (arith, last, old.one_each, slice_get_within values place v same.1))
+    | inr new ↦
+        subst (λ (vs : Relation). HoldsKeySoFar r columns (i + 1) vs more) (sym (new.0 ∙ ap (λ (t : Tuple). values ++ t ∷ []) read))
+        (subst (HoldsKeySoFar r columns (i + 1) (values ++ values_on columns (row_at r i) ∷ [])) (sym is)
+        (new_row r columns i values firsts old here
+        (λ g at. new.2 g (at ∙ ap Some (sym read)))))
+  ]
+
+  -- they were seen
+  pub gets_old : (place ≡ length firsts → ⊥) → (after ≡ values) × (slice_get values place ≡ Some (values_on columns (row_at r i)))
+  gets_old other = elim gets.number [
+    | inl same ↦ (same.0, same.1 ∙ ap Some read)
+    | inr new ↦ absurd (other (new.1 ∙ sym old.one_each))
+  ]
+
+  pub low_first : (place ≡ length firsts → ⊥) → (place < length firsts) × (number_at firsts place < i)
+  low_first other =
+      let low : place < length firsts =
+      omega (arith, old.one_each, slice_get_within values place (values_on columns (row_at r i)) (gets_old other).1) in
+      (low, (old.first place low).0)
+
 -- ---- all rows
 pub all_hold : (r : Relation) (columns : List ℕ) (i : ℕ) (values : Relation) (firsts : List ℕ) → length r ≡ i
     → HoldsKeySoFar r columns i values firsts → HoldsKey r columns values
 all_hold r columns i values firsts all so_far = record {
   key = record { whole = whole; identifies = identifies };
-  values = λ v. (to v, from v);
+  exact = λ v. (to v, from v);
 }
   where
     low : (j : ℕ) → j < length r → j < i

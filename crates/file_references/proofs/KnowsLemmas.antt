@@ -1,7 +1,8 @@
 -- The targets of a file, one set of columns after the other, and one size after the other.
 use Rattle.std.specs.Prelude.{◌↔◌, All, Any, Contains, IsTrue, MatchBool}
-use Rattle.std.proofs.Common.{inl, inr, ◌≡◌, ◌+◌, ◌<◌, ◌≤◌, ◌⊎◌, ℕ, zero, suc, Bool, true, false, List, [], ◌∷◌, ◌++◌, length, get_or, Some, refl, sym, ap, subst, ◌∙◌, ⊎_elim, arith}
+use Rattle.std.proofs.Common.{inl, inr, ◌≡◌, ◌+◌, ◌<◌, ◌≤◌, ◌⊎◌, ℕ, zero, suc, Bool, true, false, List, [], ◌∷◌, ◌++◌, length, take, get_or, Some, refl, sym, ap, subst, ◌∙◌, ⊎_elim, arith}
 use Rattle.std.proofs.lemmas.List.Elements.{AllZip-get_or, length_all_zip}
+use Rattle.std.proofs.lemmas.List.{take_more}
 use Rattle.attr_sets.specs.Attributes.{Attributes, IsSubset, below}
 use Rattle.attr_sets.specs.Sets.{attributes}
 use Rattle.attr_sets.specs.declared.set.AttrSet.{AttrSet}
@@ -11,7 +12,7 @@ use Rattle.dep_model.specs.Tuples.{Relation}
 use Rattle.dep_model.proofs.SchemeLemmas.{length-members_below}
 use Rattle.fd_search.specs.Keys.{IsRowKey}
 use Rattle.file_references.specs.Columns.{file_at, name_at}
-use Rattle.file_references.specs.Finds.{Adds, AreLookedIn, AreNamedAs, IsLookedIn, IsTargetOf, KnowsTargets, RefersTo, RefersToOne}
+use Rattle.file_references.specs.Finds.{Adds, AreLookedIn, AreNamedAs, IsLookedIn, IsTargetOf, IsTo, KnowsTargets, RefersTo, RefersToOne}
 use Rattle.file_references.specs.Keys.{AreValues, HoldsKey, IsWholeKey}
 use Rattle.file_references.specs.References.{AreNamesakes, HasTwoRows, IsOneColumn, IsReference, IsTarget, Reference}
 use Rattle.file_references.specs.declared.reference.TheConstants.{MOST_KEY_COLUMNS}
@@ -25,8 +26,18 @@ use Rattle.table_join.specs.Lent.{tuples_of}
 
 -- a test that decides chooses
 pub by_test : (b : Bool) (S P Q : Type 0) → IsTrue b ↔ S → (S → P) → ((S → ⊥) → Q) → MatchBool b P Q
-by_test true S P Q test yes no = yes (test.0 refl)
-by_test false S P Q test yes no = no (λ s. let wrong = test.1 s in cc)
+by_test true S P Q test holds fails = holds (test.0 refl)
+by_test false S P Q test holds fails = fails (λ s. let wrong = test.1 s in cc)
+
+-- the same of equal rows and columns
+pub moved_key : (r s : Relation) (columns others : List ℕ) → r ≡ s → columns ≡ others → IsWholeKey r columns → IsWholeKey s others
+moved_key r s columns others rows_are columns_are key =
+    subst (IsWholeKey s) columns_are (subst (λ (t : Relation). IsWholeKey t columns) rows_are key)
+
+pub moved_hold : (r s : Relation) (columns others : List ℕ) (values : Relation) → r ≡ s → columns ≡ others → HoldsKey r columns values
+    → HoldsKey s others values
+moved_hold r s columns others values rows_are columns_are holds =
+    subst (λ (cs : List ℕ). HoldsKey s cs values) columns_are (subst (λ (t : Relation). HoldsKey t columns values) rows_are holds)
 
 module _ (files : List HeadedRows) (target : ℕ) where
   abbrev n : ℕ
@@ -58,11 +69,11 @@ module _ (files : List HeadedRows) (target : ℕ) where
         → HoldsKey r (members_below n (attributes s)) (tuples_of t.values.keys) → IsTargetOf files t
     is_target_of t inside low differ few looked free file columns holds = record {
       within = subst (λ (i : ℕ). i < length files) (sym file) inside;
-      target = subst (λ (i : ℕ). IsTarget (length (file_at files i).names) (file_at files i).rows t.columns.items) (sym file)
+      is_target = subst (λ (i : ℕ). IsTarget (length (file_at files i).names) (file_at files i).rows t.columns.items) (sym file)
           (subst (IsTarget n r) (sym columns)
           (new_target n r shared size sets keys low differ knows.known s few looked.0 looked.1 free holds.key));
       values = subst (λ (i : ℕ). AreValues (file_at files i).rows t.columns.items (tuples_of t.values.keys)) (sym file)
-          (subst (λ (ks : List ℕ). AreValues r ks (tuples_of t.values.keys)) (sym columns) holds.values);
+          (subst (λ (ks : List ℕ). AreValues r ks (tuples_of t.values.keys)) (sym columns) holds.exact);
     }
 
     pub is_new_key : n ≤ MOST_ATTRIBUTES → HasTwoRows r → IsLookedIn files target shared (size + 1) s
@@ -70,6 +81,13 @@ module _ (files : List HeadedRows) (target : ℕ) where
         → IsWholeKey r (members_below n (attributes s)) → IsRowKey n r (attributes s)
     is_new_key low differ looked free key =
         new_key n r shared size sets keys low differ knows.known s looked.0 looked.1 free key
+
+  -- one set more of a list
+  pub knows_more : (shared : Attributes) (size : ℕ) (sets : List AttrSet) (first : List Reference) (keys : List AttrSet) (found : List Reference)
+      (i : ℕ) (d : AttrSet) → i < length sets → KnowsTargets files target shared size (take i sets ++ get_or sets i d ∷ []) first keys found
+      → KnowsTargets files target shared size (take (i + 1) sets) first keys found
+  knows_more shared size sets first keys found i d low knows =
+      subst (λ (ss : List AttrSet). KnowsTargets files target shared size ss first keys found) (sym (take_more sets i d low)) knows
 
   -- ---- from size to size
   pub knows_first : (shared : Attributes) (keys : List AttrSet) (found : List Reference) → keys ≡ []
@@ -115,9 +133,9 @@ module _ (files : List HeadedRows) (target : ℕ) where
   pub all_known : (shared : Attributes) (first : List Reference) (keys : List AttrSet) (found : List Reference) → n ≤ MOST_ATTRIBUTES
       → ((file k x : ℕ) → file < length files → (file ≡ target → ⊥) → k < n
       → attribute_named (file_at files file).names (name_at (file_at files target).names k) ≡ Some x → shared k ≡ true)
-      → KnowsTargets files target shared 3 [] first keys found → Adds files (λ (ref : Reference). ref.target ≡ target) first found
+      → KnowsTargets files target shared 3 [] first keys found → Adds files (IsTo target) first found
   all_known shared first keys found low all knows =
-      adds_fewer files (RefersToOne n target keys) (λ (ref : Reference). ref.target ≡ target) first found
+      adds_fewer files (RefersToOne n target keys) (IsTo target) first found
       (λ ref is to. (
         to,
         target_known n r shared 3 keys ref.key low (omega arith) knows.known
@@ -126,8 +144,8 @@ module _ (files : List HeadedRows) (target : ℕ) where
       )) knows.added
 
   -- where no two rows differ, there is no target
-  pub none_known : (found : List Reference) → (HasTwoRows r → ⊥) → Adds files (λ (ref : Reference). ref.target ≡ target) found found
-  none_known found alike = adds_none files (λ (ref : Reference). ref.target ≡ target) found (λ ref is to.
+  pub none_known : (found : List Reference) → (HasTwoRows r → ⊥) → Adds files (IsTo target) found found
+  none_known found alike = adds_none files (IsTo target) found (λ ref is to.
       alike (subst (λ (i : ℕ). HasTwoRows (file_at files i).rows) to is.candidate.target.differ))
 
 -- the columns of a target, where they are these

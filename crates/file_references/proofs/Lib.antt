@@ -5,6 +5,7 @@ pub mod AgreeLemmas
 pub mod AddLemmas
 pub mod TargetLemmas
 pub mod KnowsLemmas
+pub mod ShareLemmas
 pub mod SourceLemmas
 pub mod OrderLemmas
 pub mod UnmatchedLemmas

@@ -5,7 +5,7 @@ use Rattle.std.specs.Cmp.{IsEquivalence, IsTotalOrder}
 use Rattle.std.specs.Cmp.Lexicographic.{pointwise, slice_cmp}
 use Rattle.std.specs.List.Sorted.{IsPermutation, IsSorted, IsStrictlySortedBy}
 use Rattle.std.specs.Ordering.{eq_by_cmp, nat_cmp, ordering_then}
-use Rattle.std.proofs.Common.{inl, inr, ◌≡◌, ◌<◌, ◌⊎◌, ◌&&◌, ◌==◌, ℕ, Bool, true, false, nat_eq, cond, nat_lt, List, [], ◌∷◌, length, map, Ordering, Less, Equal, Greater, is_eq, refl, sym, ap, subst, ◌∙◌, ⊎_elim, arith}
+use Rattle.std.proofs.Common.{inl, inr, ◌≡◌, ◌<◌, ◌⊎◌, ◌&&◌, ◌==◌, ℕ, Bool, true, false, nat_eq, cond, nat_lt, List, [], ◌∷◌, length, map, get_or, Ordering, Less, Equal, Greater, is_eq, refl, sym, ap, subst, ◌∙◌, ⊎_elim, arith}
 use Rattle.std.proofs.lemmas.Bool.{and_parts, cases_lt, cases_order, eqb-true}
 use Rattle.std.proofs.lemmas.Bool.Decides.{nat_tests}
 use Rattle.std.proofs.lemmas.Cmp.{and_equiv, nat_cmp_total, nat_eq_equiv, nat_list_cmp_total, nat_list_eq_equiv, on_equiv, on_total, then_total}
@@ -60,15 +60,15 @@ eq_lists (x ∷ xs) (y ∷ ys) =
 
 pub ties : (x y : FoundReference) → equal x y ≡ eq_by_cmp order x y
 ties x y = sym (
-  eq_then (nat_cmp x.file y.file) _ ∙ rw (
-    eq_nat x.file y.file,
-    eq_then (slice_cmp nat_cmp x.columns.items y.columns.items) (ordering_then (nat_cmp x.target y.target) (slice_cmp nat_cmp x.key.items y.key.items)),
-    eq_lists x.columns.items y.columns.items,
-    eq_then (nat_cmp x.target y.target) (slice_cmp nat_cmp x.key.items y.key.items),
-    eq_nat x.target y.target,
-    eq_lists x.key.items y.key.items,
-  ) refl
-)
+    eq_then (nat_cmp x.file y.file) _ ∙ rw (
+      eq_nat x.file y.file,
+      eq_then (slice_cmp nat_cmp x.columns.items y.columns.items) (ordering_then (nat_cmp x.target y.target) (slice_cmp nat_cmp x.key.items y.key.items)),
+      eq_lists x.columns.items y.columns.items,
+      eq_then (nat_cmp x.target y.target) (slice_cmp nat_cmp x.key.items y.key.items),
+      eq_nat x.target y.target,
+      eq_lists x.key.items y.key.items,
+    ) refl
+    )
 
 -- ---- less
 less_then : (a b : Ordering) → ordering_then a b ≡ Less → (a ≡ Less) ⊎ ((a ≡ Equal) × (b ≡ Less))
@@ -119,20 +119,24 @@ columns_before file other columns others h = ⊎_elim (λ less. inl (less_nat fi
 pub precedes : (x y : FoundReference) → order x y ≡ Less → Precedes (reference_of x) (reference_of y)
 precedes x y h = ⊎_elim (λ less. inl (inl (less_nat x.file y.file less)))
     (λ (file, rest). ⊎_elim (λ less. inl (inr (equal_nat x.file y.file file, less_lists x.columns.items y.columns.items less)))
-    (λ (columns, later). inr (equal_nat x.file y.file file, equal_lists x.columns.items y.columns.items columns,
-    columns_before x.target y.target x.key.items y.key.items later))
+    (λ (columns, later). inr (
+      equal_nat x.file y.file file,
+      equal_lists x.columns.items y.columns.items columns,
+      columns_before x.target y.target x.key.items y.key.items later,
+    ))
     (less_then (slice_cmp nat_cmp x.columns.items y.columns.items) _ rest))
     (less_then (nat_cmp x.file y.file) _ h)
 
+pairs_precede : (ys : List FoundReference) → IsStrictlySortedBy order ys
+    → AllPairs (λ (x y : FoundReference). Precedes (reference_of x) (reference_of y)) ys
+unfolding IsStrictlySortedBy
+pairs_precede [] h = no_pairs (λ (x y : FoundReference). Precedes (reference_of x) (reference_of y))
+pairs_precede (y ∷ ys) h =
+    AllPairs-cons (λ (a b : FoundReference). Precedes (reference_of a) (reference_of b)) y ys
+    (λ i d l. precedes y (get_or ys i d) (All-from_recursion (λ (z : FoundReference). order y z ≡ Less) ys h.0 i d l)) (pairs_precede ys h.1)
+
 pub all_precede : (xs : List FoundReference) → IsStrictlySortedBy order xs → AllPairs Precedes (map reference_of xs)
-all_precede xs sorted = pairs_map Precedes reference_of xs (pairs xs sorted)
-  where
-    pairs : (ys : List FoundReference) → IsStrictlySortedBy order ys → AllPairs (λ (x y : FoundReference). Precedes (reference_of x) (reference_of y)) ys
-    unfolding IsStrictlySortedBy
-    pairs [] h = no_pairs (λ (x y : FoundReference). Precedes (reference_of x) (reference_of y))
-    pairs (y ∷ ys) h =
-        AllPairs-cons (λ (a b : FoundReference). Precedes (reference_of a) (reference_of b)) y ys
-        (λ i d l. precedes y _ (All-from_recursion (λ (z : FoundReference). order y z ≡ Less) ys h.0 i d l)) (pairs ys h.1)
+all_precede xs sorted = pairs_map Precedes reference_of xs (pairs_precede xs sorted)
 
 -- ---- each once
 pub equivalence : IsEquivalence equal

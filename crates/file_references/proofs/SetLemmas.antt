@@ -11,7 +11,7 @@ use Rattle.attr_sets.specs.declared.set.AttrSet.{AttrSet}
 use Rattle.attr_sets.specs.declared.set.TheConstants.{MOST_ATTRIBUTES}
 use Rattle.attr_sets.proofs.AttributesLemmas.{attributes_below, count_below-before_member, count_below-difference_only, count_below-lt, count_below-none, count_below-only, count_below-union_only, same_from_within, tell_member}
 use Rattle.dep_model.specs.Projections.{members_below}
-use Rattle.dep_model.proofs.ListLemmas.{All-members, Any-from}
+use Rattle.dep_model.proofs.ListLemmas.{All-members, Any-from, Any-left}
 use Rattle.dep_model.proofs.SchemeLemmas.{count_below-no_more, count_below-start, length-members_below, member_at, members_below-at}
 use Rattle.file_references.specs.Keys.{AddsLarger, AddsLargerUpTo, AreAllOfSize, IsLarger}
 
@@ -88,13 +88,18 @@ greatest (suc n) x some = elim (cases_Bool (x n)) [
 pub one_member : (x : Attributes) → IsSubset x (below MOST_ATTRIBUTES) → count_below x MOST_ATTRIBUTES ≡ 1
     → (a : ℕ) × (a < MOST_ATTRIBUTES) × (x a ≡ true) × (only a ≡ x)
 one_member x within one = elim (tell_member MOST_ATTRIBUTES x) [
-  | inl (a, low, has) ↦ (a, low, has, same_from_within (only a) x (only_within x a has) (λ k member.
-      elim (cases_Bool (only a k)) [
-        | inl is ↦ is
-        | inr differ ↦
-            let less = count_below-lt MOST_ATTRIBUTES (only a) x k (only_within x a has) (ltb-true k MOST_ATTRIBUTES (within k member)) differ member in
-            absurd (omega (arith, less, one, count_below-only MOST_ATTRIBUTES a low))
-      ]))
+  | inl (a, low, has) ↦ (
+    a,
+    low,
+    has,
+    same_from_within (only a) x (only_within x a has) (λ k member.
+        elim (cases_Bool (only a k)) [
+          | inl is ↦ is
+          | inr differ ↦
+              let less = count_below-lt MOST_ATTRIBUTES (only a) x k (only_within x a has) (ltb-true k MOST_ATTRIBUTES (within k member)) differ member in
+              absurd (omega (arith, less, one, count_below-only MOST_ATTRIBUTES a low))
+        ]),
+  )
   | inr none ↦ absurd (omega (arith, one, count_below-none MOST_ATTRIBUTES x none))
 ]
 
@@ -105,6 +110,25 @@ each_of_one whole sets s a low has is = (
   subst (λ (x : Attributes). IsSubset x whole) (sym is) (only_within whole a has),
   ap (λ (x : Attributes). count_below x MOST_ATTRIBUTES) is ∙ count_below-only MOST_ATTRIBUTES a low,
 )
+
+pub one_more_of_one : (whole : Attributes) (a : ℕ) (sets : List AttrSet) (s : AttrSet)
+    → ((b : ℕ) → b < a → whole b ≡ true → Any (λ (t : AttrSet). attributes t ≡ only b) sets) → attributes s ≡ only a
+    → (b : ℕ) → b < a + 1 → whole b ≡ true → Any (λ (t : AttrSet). attributes t ≡ only b) (sets ++ s ∷ [])
+one_more_of_one whole a sets s before is b low member = elim (cases_lt b a) [
+  | inl less ↦ Any-left (λ (t : AttrSet). attributes t ≡ only b) sets s (before b less member)
+  | inr other ↦
+      let last : b ≡ a = omega (arith, low, other) in
+      Any-from (λ (t : AttrSet). attributes t ≡ only b) (sets ++ s ∷ []) s (Contains-push sets s) (is ∙ ap only (sym last))
+]
+
+pub no_more_of_one : (whole : Attributes) (a : ℕ) (sets : List AttrSet)
+    → ((b : ℕ) → b < a → whole b ≡ true → Any (λ (t : AttrSet). attributes t ≡ only b) sets) → whole a ≡ false
+    → (b : ℕ) → b < a + 1 → whole b ≡ true → Any (λ (t : AttrSet). attributes t ≡ only b) sets
+no_more_of_one whole a sets before lacks b low member = elim (cases_lt b a) [
+  | inl less ↦ before b less member
+  | inr other ↦
+      let last : b ≡ a = omega (arith, low, other) in absurd (true≢false (sym member ∙ ap whole last ∙ lacks))
+]
 
 pub all_of_one : (whole : Attributes) (sets : List AttrSet) → IsSubset whole (below MOST_ATTRIBUTES)
     → All (λ (s : AttrSet). IsSubset (attributes s) whole × (count_below (attributes s) MOST_ATTRIBUTES ≡ 1)) sets
@@ -122,20 +146,20 @@ all_of_one whole sets low each all = record {
 pub none_larger : (whole x : Attributes) (old : List AttrSet) → AddsLargerUpTo whole x 0 old old
 none_larger whole x old = record {
   kept = λ s has. has;
-  only = λ s has. inl has;
+  no_other = λ s has. inl has;
   all = λ a low. absurd (omega (arith, low));
 }
 
 larger_still : (whole x : Attributes) (a : ℕ) (s : AttrSet) → ((b : ℕ) × IsLarger whole x a b s) → (b : ℕ) × IsLarger whole x (a + 1) b s
-larger_still whole x a s (b, low, has, within, is) = (b, omega (arith, low), has, within, is)
+larger_still whole x a s (b, (low, has, within, is)) = (b, (omega (arith, low), has, within, is))
 
 pub one_larger : (whole x : Attributes) (a : ℕ) (old now : List AttrSet) (s : AttrSet) → whole a ≡ true → IsSubset x (below a)
     → attributes s ≡ union x (only a) → AddsLargerUpTo whole x a old now → AddsLargerUpTo whole x (a + 1) old (now ++ s ∷ [])
 one_larger whole x a old now s has within is before = record {
   kept = λ t t_in. Contains-append_left now (s ∷ []) t (before.kept t t_in);
-  only = λ t t_in. ⊎_elim
-      (λ earlier. ⊎_elim (λ first. inl first) (λ more. inr (larger_still whole x a t more)) (before.only t earlier))
-      (λ same. inr (a, omega arith, has, within, ap attributes (sym same) ∙ is))
+  no_other = λ t t_in. ⊎_elim
+      (λ earlier. ⊎_elim (λ first. inl first) (λ more. inr (larger_still whole x a t more)) (before.no_other t earlier))
+      (λ same. inr (a, (omega arith, has, within, ap attributes (sym same) ∙ is)))
       (Contains-push_cases now s t t_in);
   all = λ b low member beyond. elim (cases_lt b a) [
     | inl less ↦
@@ -150,7 +174,7 @@ pub no_larger : (whole x : Attributes) (a : ℕ) (old now : List AttrSet) → (w
     → AddsLargerUpTo whole x a old now → AddsLargerUpTo whole x (a + 1) old now
 no_larger whole x a old now not before = record {
   kept = before.kept;
-  only = λ t t_in. ⊎_elim (λ first. inl first) (λ more. inr (larger_still whole x a t more)) (before.only t t_in);
+  no_other = λ t t_in. ⊎_elim (λ first. inl first) (λ more. inr (larger_still whole x a t more)) (before.no_other t t_in);
   all = λ b low member beyond. elim (cases_lt b a) [
     | inl less ↦ before.all b less member beyond
     | inr other ↦
@@ -161,14 +185,14 @@ no_larger whole x a old now not before = record {
 
 -- what was made of some sets
 pub record AreLarger (whole : Attributes) (sets larger : List AttrSet) : Type 0 where
-  pub only : (t : AttrSet) → Contains larger t
+  pub no_other : (t : AttrSet) → Contains larger t
       → (s : AttrSet) × Contains sets s × ((a : ℕ) × IsLarger whole (attributes s) MOST_ATTRIBUTES a t)
   pub all : (s : AttrSet) → Contains sets s → (a : ℕ) → a < MOST_ATTRIBUTES → whole a ≡ true
       → IsSubset (attributes s) (below a) → (t : AttrSet) × Contains larger t × (attributes t ≡ union (attributes s) (only a))
 
 pub larger_none : (whole : Attributes) (sets : List AttrSet) (larger : List AttrSet) → larger ≡ [] → AreLarger whole (take 0 sets) larger
 larger_none whole sets larger none = record {
-  only = λ t t_in. absurd (omega (arith, t_in.1, ap length none));
+  no_other = λ t t_in. absurd (omega (arith, t_in.1, ap length none));
   all = λ s s_in. absurd (omega (arith, s_in.1));
 }
 
@@ -177,12 +201,12 @@ pub larger_more : (whole : Attributes) (sets old new : List AttrSet) (i : ℕ) (
     → AreLarger whole (take (i + 1) sets) new
 larger_more whole sets old new i d low before adds =
     subst (λ (ss : List AttrSet). AreLarger whole ss new) (sym (take_more sets i d low)) (record {
-      only = λ t t_in. ⊎_elim
+      no_other = λ t t_in. ⊎_elim
           (λ earlier.
-          let (s, s_in, more) = before.only t earlier in
+          let (s, s_in, more) = before.no_other t earlier in
           (s, Contains-append_left (take i sets) (get_or sets i d ∷ []) s s_in, more))
           (λ more. (get_or sets i d, Contains-push (take i sets) (get_or sets i d), more))
-          (adds.only t t_in);
+          (adds.no_other t t_in);
       all = λ s s_in a l has beyond. ⊎_elim
           (λ earlier. let (t, t_in, is) = before.all s earlier a l has beyond in (t, adds.kept t t_in, is))
           (λ (same : get_or sets i d ≡ s).
@@ -195,7 +219,7 @@ pub all_larger : (whole : Attributes) (size : ℕ) (sets larger : List AttrSet) 
     → AreAllOfSize whole size sets → AreLarger whole sets larger → AreAllOfSize whole (size + 1) larger
 all_larger whole size sets larger low all are = record {
   each = All-members (λ (t : AttrSet). IsSubset (attributes t) whole × (count_below (attributes t) MOST_ATTRIBUTES ≡ size + 1)) larger
-      (λ t t_in. let (s, s_in, (a, more)) = are.only t t_in in each s t a s_in more);
+      (λ t t_in. let (s, s_in, (a, more)) = are.no_other t t_in in each s t a s_in more);
   all = every;
 }
   where
@@ -243,3 +267,6 @@ has_member n x k low has = (
   omega (arith, count_below-before_member n k x low has, length-members_below n x),
   members_below-at n x k k low has,
 )
+
+pub members_low : (n : ℕ) (x : Attributes) → All (λ (k : ℕ). k < n) (members_below n x)
+members_low n x = All-members (λ (k : ℕ). k < n) (members_below n x) (λ k has. (member_of n x k has).0)

@@ -1,7 +1,7 @@
 -- Which sets of columns of a file are targets: minimal keys that are found by their sizes.
 use Rattle.std.specs.Prelude.{All, Any, Contains}
-use Rattle.std.proofs.Common.{inl, inr, ◌≡◌, ◌+◌, ◌<◌, ◌≤◌, ◌⊎◌, ℕ, true, false, true≢false, List, [], ◌∷◌, ◌++◌, length, sym, ap, subst, refl, ◌∙◌, ⊎_elim, arith, ltb-true, lt-ltb}
-use Rattle.std.proofs.lemmas.Bool.{cases_Bool}
+use Rattle.std.proofs.Common.{inl, inr, ◌≡◌, ◌+◌, ◌<◌, ◌≤◌, ◌⊎◌, ℕ, zero, suc, true, false, true≢false, List, [], ◌∷◌, ◌++◌, length, sym, ap, subst, refl, ◌∙◌, ⊎_elim, arith, ltb-true, lt-ltb}
+use Rattle.std.proofs.lemmas.Bool.{cases_Bool, cases_lt}
 use Rattle.std.proofs.lemmas.List.Elements.{All-contains, All-nil, All-push, Contains-push, Contains-push_cases}
 use Rattle.attr_sets.specs.Attributes.{Attributes, IsSubset, below, count_below, difference, only}
 use Rattle.attr_sets.specs.Sets.{attributes}
@@ -192,7 +192,7 @@ pub known_at_first : (n : ℕ) (r : Relation) (shared : Attributes) (keys : List
 known_at_first n r shared keys none = record {
   each = λ i d l. absurd (omega (arith, l, ap length none));
   all = λ x seen key. ⊎_elim (λ looked. let some = looked.some in let few = looked.few in absurd (omega (arith, some, few)))
-      (λ (i, t, l, rest). absurd (omega (arith, l))) seen;
+      (λ (i, t, l, at, same). absurd (omega (arith, l))) seen;
 }
 
 pub known_next : (n : ℕ) (r : Relation) (shared : Attributes) (size : ℕ) (sets keys : List AttrSet) → AreLooked n shared (size + 1) sets
@@ -200,11 +200,11 @@ pub known_next : (n : ℕ) (r : Relation) (shared : Attributes) (size : ℕ) (se
 known_next n r shared size sets keys all known = record {
   each = known.each;
   all = λ x seen key. ⊎_elim (λ looked. next x looked key (le_or_next (count_below x MOST_ATTRIBUTES) size looked.few))
-      (λ (i, t, l, rest). absurd (omega (arith, l))) seen;
+      (λ (i, t, l, at, same). absurd (omega (arith, l))) seen;
 }
   where
     le_or_next : (m k : ℕ) → m ≤ k + 1 → (m ≤ k) ⊎ (m ≡ k + 1)
-    le_or_next m k le = omega (arith, le)
+    le_or_next m k le = elim (cases_lt k m) [ inl less ↦ inr (omega (arith, le, less)) | inr other ↦ inl other ]
 
     next : (x : Attributes) → IsLooked n shared (size + 1) x → IsWholeKey r (members_below n x)
         → (count_below x MOST_ATTRIBUTES ≤ size) ⊎ (count_below x MOST_ATTRIBUTES ≡ size + 1)

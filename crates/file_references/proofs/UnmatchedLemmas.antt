@@ -4,6 +4,7 @@ use Rattle.std.specs.List.{list_any, position_or_len}
 use Rattle.std.specs.declared.alloc.Global.{Global}
 use Rattle.std.proofs.Common.{inl, inr, ◌≡◌, ◌+◌, ◌<◌, ◌&&◌, ℕ, Bool, true, false, true≢false, not, List, [], ◌∷◌, ◌++◌, length, map, take, get_or, Bor, Vec, sym, ap, subst, refl, ◌∙◌, arith}
 use Rattle.std.proofs.lemmas.Bool.{cases_Bool}
+use Rattle.std.proofs.lemmas.List.{get_or-map, length-map}
 use Rattle.std.proofs.lemmas.List.Folds.{Any-from_list_any, list_any-from_Any}
 use Rattle.attr_sets.proofs.AttributesLemmas.{same_truth}
 use Rattle.dep_model.specs.Projections.{members_below}
@@ -18,7 +19,7 @@ use Rattle.table_join.specs.Lent.{lent_values, tuples_of}
 use Rattle.table_join.proofs.MatchLemmas.{distinct_next, lent_gets, same_lent}
 use Rattle.file_references.specs.Columns.{HasMatch, misses_none, values_on}
 use Rattle.file_references.specs.Keys.{AreValues}
-use Rattle.file_references.specs.Matches.{has_match, is_unmatched, unmatched_rows}
+use Rattle.file_references.specs.Matches.{has_match, is_unmatched, unmatched_below, unmatched_rows, values_of_rows}
 use Rattle.file_references.specs.References.{Includes}
 use Rattle.file_references.proofs.SetLemmas.{has_member, member_of}
 use Rattle.file_references.proofs.ValueLemmas.{row_in, row_of}
@@ -41,17 +42,26 @@ match_is s k values all b are test =
     same_truth (has_match s k values) b (λ h. test.1 ((are values).1 (match_to s k values h)))
     (λ h. match_from s k values ((are values).0 (test.0 h)))
 
+-- whether a row is unmatched, by both tests
+pub unmatched_is : (x : List ℕ) (s : Relation) (k : List ℕ) (t : Tuple) (b h : Bool) → misses_none x t ≡ b
+    → has_match s k (values_on x t) ≡ h → is_unmatched x s k t ≡ (b && not h)
+unmatched_is x s k t b h whole matched = rw (whole, matched) refl
+
 -- ---- one row more
+pub none_unmatched : (r : Relation) (x : List ℕ) (s : Relation) (k : List ℕ) (found : List ℕ) → found ≡ []
+    → found ≡ unmatched_below r x s k 0
+none_unmatched r x s k found none = none ∙ sym (members_below-none (λ j. is_unmatched x s k (row_at r j)))
+
 pub unmatched_more : (r : Relation) (x : List ℕ) (s : Relation) (k : List ℕ) (i : ℕ) (found : List ℕ)
-    → found ≡ members_below i (λ j. is_unmatched x s k (row_at r j)) → is_unmatched x s k (row_at r i) ≡ true
-    → found ++ i ∷ [] ≡ members_below (i + 1) (λ j. is_unmatched x s k (row_at r j))
+    → found ≡ unmatched_below r x s k i → is_unmatched x s k (row_at r i) ≡ true
+    → found ++ i ∷ [] ≡ unmatched_below r x s k (i + 1)
 unmatched_more r x s k i found is here =
     ap (λ (rows : List ℕ). rows ++ i ∷ []) is
     ∙ sym (members_below-one_more i (i + 1) (λ j. is_unmatched x s k (row_at r j)) refl here)
 
 pub matched_more : (r : Relation) (x : List ℕ) (s : Relation) (k : List ℕ) (i : ℕ) (found : List ℕ)
-    → found ≡ members_below i (λ j. is_unmatched x s k (row_at r j)) → is_unmatched x s k (row_at r i) ≡ false
-    → found ≡ members_below (i + 1) (λ j. is_unmatched x s k (row_at r j))
+    → found ≡ unmatched_below r x s k i → is_unmatched x s k (row_at r i) ≡ false
+    → found ≡ unmatched_below r x s k (i + 1)
 matched_more r x s k i found is here =
     is ∙ sym (members_below-no_more i (i + 1) (λ j. is_unmatched x s k (row_at r j)) refl here)
 
@@ -109,3 +119,13 @@ values_more listed i keys after key v before low at read inserted =
     distinct_next listed i (tuples_of keys) (tuples_of after) place before low
     (subst (λ (t : Tuple). Gets t (tuples_of keys) (tuples_of after) place) (read ∙ sym at)
     (lent_gets keys after key place inserted refl))
+
+-- the same at one of some positions
+pub values_more_at : (r : Relation) (columns positions : List ℕ) (i d : ℕ) (keys after : List (Vec (Bor (List ℕ)) Global))
+    (key : Vec (Bor (List ℕ)) Global) → tuples_of keys ≡ distinct_tuples (take i (values_of_rows r columns positions)) → i < length positions
+    → lent_values key.items ≡ values_on columns (row_at r (get_or positions i d)) → after ≡ insert_key same_lent keys key
+    → tuples_of after ≡ distinct_tuples (take (i + 1) (values_of_rows r columns positions))
+values_more_at r columns positions i d keys after key before low read inserted =
+    values_more (values_of_rows r columns positions) i keys after key (values_on columns (row_at r (get_or positions i d))) before
+    (omega (arith, low, length-map positions (λ j. values_on columns (row_at r j))))
+    (get_or-map (λ j. values_on columns (row_at r j)) positions i d [] low) read inserted

@@ -1,9 +1,10 @@
 -- Rows at lists of columns: where their values stand, which are there, and rows by their positions.
-use Rattle.std.proofs.Common.{inl, inr, ◌≡◌, ◌+◌, ◌<◌, ℕ, Bool, true, false, true≢false, List, [], ◌∷◌, length, map, take, get_or, Bor, refl, sym, ap, subst, ◌∙◌, arith}
+use Rattle.std.proofs.Common.{inl, inr, ◌≡◌, ◌+◌, ◌<◌, ◌==◌, nat_lt, ℕ, Bool, true, false, true≢false, List, [], ◌∷◌, length, map, take, get_or, Bor, refl, sym, ap, subst, ◌∙◌, arith}
 use Rattle.std.specs.List.{list_all}
 use Rattle.std.specs.Prelude.{All, Contains}
 use Rattle.std.proofs.lemmas.List.Elements.{All-get_or, All-contains, Contains-get_or}
 use Rattle.std.proofs.lemmas.List.Folds.{list_all-map, list_all_at, list_all_more}
+use Rattle.std.proofs.lemmas.Bool.Decides.{nat_tests}
 use Rattle.std.proofs.lemmas.List.{map_more, get_or-map}
 use Rattle.dep_model.specs.Tuples.{Tuple, Relation, IsOver, value_at}
 use Rattle.dep_model.proofs.ListLemmas.{same_default}
@@ -51,3 +52,12 @@ whole_as_read columns t read b is test = ap (list_all is_there) (sym is) ∙ sym
 -- what is true of a test, by what it decides
 pub decided : (b : Bool) (P : Type 0) → (b ≡ true → P) → (P → b ≡ true) → b ≡ false → P → ⊥
 decided b P to from is holds = true≢false (sym (from holds) ∙ is)
+
+-- a value that is empty is missing
+pub missing_here : (values : List (Bor (List ℕ))) (i : ℕ) (b : Bor (List ℕ)) (r : Bool) → i < length values
+    → r ≡ (length (get_or values i b).now == 0) → r ≡ true → false ≡ list_all is_there (lent_values values)
+missing_here values i b r low is empty =
+    sym (one_missing values i b low (not_there (length (get_or values i b).now) (sym is ∙ empty)))
+  where
+    not_there : (n : ℕ) → (n == 0) ≡ true → nat_lt 0 n ≡ false
+    not_there n h = grind (arith, nat_tests)

@@ -1,6 +1,6 @@
 -- How references are found, one target after the other: for `all_references` and the functions below it.
 -- `Desk` does not cite it.
-use Rattle.std.specs.Prelude.{◌≡◌, ◌<◌, ◌⊎◌, ℕ, Some, List, length, map, Contains}
+use Rattle.std.specs.Prelude.{◌≡◌, ◌<◌, ◌⊎◌, ℕ, true, Some, List, [], ◌∷◌, All, length, map, Contains}
 use Rattle.std.specs.List.{AllZip}
 use Rattle.attr_sets.specs.Attributes.{Attributes, count_below}
 use Rattle.attr_sets.specs.Sets.{attributes}
@@ -30,12 +30,39 @@ pub record Adds (files : List HeadedRows) (P : Reference → Type 0) (old new : 
 -- the target of the code is one of the files, with its values
 pub record IsTargetOf (files : List HeadedRows) (target : Target) : Type 0 where
   pub within : target.file < length files
-  pub target : IsTarget (length (file_at files target.file).names) (file_at files target.file).rows target.columns.items
+  pub is_target : IsTarget (length (file_at files target.file).names) (file_at files target.file).rows target.columns.items
   pub values : AreValues (file_at files target.file).rows target.columns.items (tuples_of target.values.keys)
 
 -- it is referred to
 abbrev pub RefersTo : Target → Reference → Type 0
 RefersTo target ref = (ref.target ≡ target.file) × (ref.key ≡ target.columns.items)
+
+-- and from this file, from one of the first n files, and from one of the first n columns of this file
+abbrev pub RefersFrom : Target → ℕ → Reference → Type 0
+RefersFrom target file ref = RefersTo target ref × (ref.file ≡ file)
+
+abbrev pub RefersFromFirst : Target → ℕ → Reference → Type 0
+RefersFromFirst target n ref = RefersTo target ref × (ref.file < n)
+
+abbrev pub RefersFromColumns : Target → ℕ → ℕ → Reference → Type 0
+RefersFromColumns target file n ref =
+    RefersFrom target file ref × ((k : ℕ) × (k < n) × (ref.columns ≡ k ∷ []))
+
+-- this file is referred to, and one of the first n files
+abbrev pub IsTo : ℕ → Reference → Type 0
+IsTo file ref = ref.target ≡ file
+
+abbrev pub IsToFirst : ℕ → Reference → Type 0
+IsToFirst n ref = ref.target < n
+
+-- this reference
+abbrev pub IsThis : Reference → Reference → Type 0
+IsThis this ref = ref ≡ this
+
+-- the columns of the target are columns of a file
+pub record FitsFile (files : List HeadedRows) (target : Target) : Type 0 where
+  pub within : target.file < length files
+  pub columns : All (λ k. k < length (file_at files target.file).names) target.columns.items
 
 -- one of these sets of n columns of a file is referred to
 abbrev pub RefersToOne : ℕ → ℕ → List AttrSet → Reference → Type 0

@@ -24,7 +24,7 @@ AreValues r columns values = (v : Tuple) → Contains values v ↔ HasMatch r co
 -- the columns are such a key, and these are the values of the rows there
 pub record HoldsKey (r : Relation) (columns : List ℕ) (values : Relation) : Type 0 where
   pub key : IsWholeKey r columns
-  pub values : AreValues r columns values
+  pub exact : AreValues r columns values
 
 -- so it is for the first i rows: each list of values is kept with a row that has it, and whoever has it
 -- is that row
@@ -52,7 +52,7 @@ IsLarger whole x most a s =
 
 pub record AddsLargerUpTo (whole x : Attributes) (most : ℕ) (old new : List AttrSet) : Type 0 where
   pub kept : (s : AttrSet) → Contains old s → Contains new s
-  pub only : (s : AttrSet) → Contains new s → Contains old s ⊎ ((a : ℕ) × IsLarger whole x most a s)
+  pub no_other : (s : AttrSet) → Contains new s → Contains old s ⊎ ((a : ℕ) × IsLarger whole x most a s)
   pub all : (a : ℕ) → a < most → whole a ≡ true → IsSubset x (below a) → (s : AttrSet) × Contains new s
       × (attributes s ≡ union x (only a))
 

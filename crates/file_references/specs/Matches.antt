@@ -15,10 +15,18 @@ has_match s k values = list_any (λ u. same_tuple (values_on k u) values) s
 abbrev pub is_unmatched : List ℕ → Relation → List ℕ → Tuple → Bool
 is_unmatched x s k t = misses_none x t && not (has_match s k (values_on x t))
 
--- the positions of such rows, ascending
-abbrev pub unmatched_rows : Relation → List ℕ → Relation → List ℕ → List ℕ
-unmatched_rows r x s k = members_below (length r) (λ i. is_unmatched x s k (row_at r i))
+-- the positions of such rows among the first n, ascending
+abbrev pub unmatched_below : Relation → List ℕ → Relation → List ℕ → ℕ → List ℕ
+unmatched_below r x s k n = members_below n (λ i. is_unmatched x s k (row_at r i))
 
--- the values of the rows at these positions, each list of values once, in the order of the first rows
+-- and among all
+abbrev pub unmatched_rows : Relation → List ℕ → Relation → List ℕ → List ℕ
+unmatched_rows r x s k = unmatched_below r x s k (length r)
+
+-- the values of the rows at these positions
+abbrev pub values_of_rows : Relation → List ℕ → List ℕ → Relation
+values_of_rows r x rows = map (λ i. values_on x (row_at r i)) rows
+
+-- the same, each list of values once, in the order of the first rows
 abbrev pub distinct_values : Relation → List ℕ → List ℕ → Relation
-distinct_values r x rows = distinct_tuples (map (λ i. values_on x (row_at r i)) rows)
+distinct_values r x rows = distinct_tuples (values_of_rows r x rows)

@@ -3,7 +3,8 @@
 ghost use Rattle.std.specs.Prelude.{◌≡◌, ◌↔◌, ◌<◌, ℕ, List, length, map, All, IfOk, IsTrue, MatchOption, OnOk};
 ghost use Rattle.dep_model.specs.Tuples.{IsOver};
 ghost use Rattle.file_references.specs.Columns.{file_at};
-ghost use Rattle.file_references.specs.Finds.{Adds, AllAre, AreNamedAs, IsTargetOf, RefersTo, reference_of, refers_from};
+ghost use Rattle.file_references.specs.Finds.{Adds, AllAre, AreNamedAs, FitsFile, IsTargetOf, IsThis};
+ghost use Rattle.file_references.specs.Finds.{RefersFrom, RefersTo, reference_of, refers_from};
 ghost use Rattle.file_references.specs.References.{IsCandidate};
 ghost use Rattle.headed_rows.specs.Headers.{IsColumnHeader};
 ghost use Rattle.headed_rows.specs.Headings.{headed_of};
@@ -29,8 +30,9 @@ pub fn add_sources(
 ) -> Result<(), OutOfMemory>
     requires header { All (λ h. IsColumnHeader h.names.items) files.now }
     requires same_width { All (λ h. IsOver (length h.names.items) h.rows) files.now }
-    requires target { IsTargetOf (map headed_of files.now) target.now }
-    ensures added { OnOk result (Adds (map headed_of files.now) (RefersTo target.now)
+    requires target { FitsFile (map headed_of files.now) target.now }
+    ensures added { IsTargetOf (map headed_of files.now) target.now
+        → OnOk result (Adds (map headed_of files.now) (RefersTo target.now)
         (map reference_of found.old.items) (map reference_of found.new.items)) }
 {
     for file in 0..files.len() {
@@ -54,10 +56,10 @@ fn add_columns(
     requires file { file < length files.now }
     requires header { All (λ h. IsColumnHeader h.names.items) files.now }
     requires same_width { All (λ h. IsOver (length h.names.items) h.rows) files.now }
-    requires target { IsTargetOf (map headed_of files.now) target.now }
+    requires target { FitsFile (map headed_of files.now) target.now }
     requires one { length target.now.columns.items ≡ 1 }
-    ensures added { OnOk result (Adds (map headed_of files.now)
-        (λ ref. RefersTo target.now ref × (ref.file ≡ file))
+    ensures added { IsTargetOf (map headed_of files.now) target.now
+        → OnOk result (Adds (map headed_of files.now) (RefersFrom target.now file)
         (map reference_of found.old.items) (map reference_of found.new.items)) }
 {
     for column in 0..files[file].names.len() {
@@ -81,10 +83,10 @@ fn add_namesakes(
     requires file { file < length files.now }
     requires header { All (λ h. IsColumnHeader h.names.items) files.now }
     requires same_width { All (λ h. IsOver (length h.names.items) h.rows) files.now }
-    requires target { IsTargetOf (map headed_of files.now) target.now }
+    requires target { FitsFile (map headed_of files.now) target.now }
     requires several { length target.now.columns.items ≡ 1 → ⊥ }
-    ensures added { OnOk result (Adds (map headed_of files.now)
-        (λ ref. RefersTo target.now ref × (ref.file ≡ file))
+    ensures added { IsTargetOf (map headed_of files.now) target.now
+        → OnOk result (Adds (map headed_of files.now) (RefersFrom target.now file)
         (map reference_of found.old.items) (map reference_of found.new.items)) }
 {
     if file == target.file {
@@ -109,10 +111,10 @@ fn add_source(
     requires file { file < length files.now }
     requires columns { All (λ k. k < length (file_at (map headed_of files.now) file).names) columns.items }
     requires same_width { All (λ h. IsOver (length h.names.items) h.rows) files.now }
-    requires target { IsTargetOf (map headed_of files.now) target.now }
-    requires candidate { IsCandidate (map headed_of files.now) (refers_from file columns.items target.now) }
-    ensures added { OnOk result (Adds (map headed_of files.now)
-        (λ ref. ref ≡ refers_from file columns.entry.items target.now)
+    requires target { FitsFile (map headed_of files.now) target.now }
+    ensures added { IsTargetOf (map headed_of files.now) target.now
+        → IsCandidate (map headed_of files.now) (refers_from file columns.items target.now)
+        → OnOk result (Adds (map headed_of files.now) (IsThis (refers_from file columns.items target.now))
         (map reference_of found.old.items) (map reference_of found.new.items)) }
 {
     if all_are(alloc, &files[file].rows, &columns, &target.values)? {

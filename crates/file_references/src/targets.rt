@@ -5,7 +5,7 @@ ghost use Rattle.attr_sets.specs.Attributes.{Attributes, IsSubset, below};
 ghost use Rattle.attr_sets.specs.Sets.{attributes};
 ghost use Rattle.dep_model.specs.Tuples.{IsOver};
 ghost use Rattle.file_references.specs.Columns.{file_at, name_at};
-ghost use Rattle.file_references.specs.Finds.{Adds, AreLookedIn, IsLookedIn, KnowsTargets, reference_of};
+ghost use Rattle.file_references.specs.Finds.{Adds, AreLookedIn, IsLookedIn, IsTo, KnowsTargets, reference_of};
 ghost use Rattle.file_references.specs.References.{HasTwoRows, Reference};
 ghost use Rattle.file_references.specs.declared.reference.TheConstants.{MOST_KEY_COLUMNS};
 ghost use Rattle.headed_rows.specs.Headers.{IsColumnHeader};
@@ -45,7 +45,7 @@ pub fn add_references_to(
     requires target { target < length files.now }
     requires header { All (λ h. IsColumnHeader h.names.items) files.now }
     requires same_width { All (λ h. IsOver (length h.names.items) h.rows) files.now }
-    ensures added { OnOk result (Adds (map headed_of files.now) (λ ref. ref.target ≡ target)
+    ensures added { OnOk result (Adds (map headed_of files.now) (IsTo target)
         (map reference_of found.old.items) (map reference_of found.new.items)) }
 {
     if !have_two(&files[target].rows) {
