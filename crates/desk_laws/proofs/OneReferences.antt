@@ -102,35 +102,35 @@ module _ (names : List (List ℕ)) where
       same_column : NamesColumnAt names m x → NamesColumnAt names m y → x ≡ y
       same_column one other = let same : Some x ≡ Some y = sym one.known ∙ other.known in cc
 
-  -- the word at a position names a column
-  named_at : (ms : List Mark) (xs : List ℕ) (position : ℕ) (m : Mark) → AllZip (NamesColumnAt names) ms xs
-      → slice_get ms position ≡ Some m → (column : ℕ) × NamesColumnAt names m column × Contains xs column × (position < length xs)
-  named_at [] xs position m each at = absurd cc
-  named_at (n ∷ ms) [] position m each at = absurd each
+  -- the word at a place names a column
+  named_at : (ms : List Mark) (xs : List ℕ) (place : ℕ) (m : Mark) → AllZip (NamesColumnAt names) ms xs
+      → slice_get ms place ≡ Some m → (column : ℕ) × NamesColumnAt names m column × Contains xs column × (place < length xs)
+  named_at [] xs place m each at = absurd cc
+  named_at (n ∷ ms) [] place m each at = absurd each
   named_at (n ∷ ms) (x ∷ xs) zero m each at =
       let same : n ≡ m = cc in
       (x, subst (λ (w : Mark). NamesColumnAt names w x) same each.0, Contains-head x xs, omega arith)
-  named_at (n ∷ ms) (x ∷ xs) (suc position) m each at =
-      let (column, is, has, low) = named_at ms xs position m each.1 at in
+  named_at (n ∷ ms) (x ∷ xs) (suc place) m each at =
+      let (column, is, has, low) = named_at ms xs place m each.1 at in
       (column, is, Contains-later x xs column has, omega (arith, low))
 
   -- no word before it names this column, where the columns differ
-  unnamed_before : (ms : List Mark) (xs : List ℕ) (position : ℕ) (m : Mark) (column : ℕ) → AllZip (NamesColumnAt names) ms xs
-      → AllPairs (λ (one other : ℕ). one ≡ other → ⊥) xs → slice_get ms position ≡ Some m
-      → attribute_named names m.word ≡ Some column → (w : Mark) → Contains (take position ms) w
+  unnamed_before : (ms : List Mark) (xs : List ℕ) (place : ℕ) (m : Mark) (column : ℕ) → AllZip (NamesColumnAt names) ms xs
+      → AllPairs (λ (one other : ℕ). one ≡ other → ⊥) xs → slice_get ms place ≡ Some m
+      → attribute_named names m.word ≡ Some column → (w : Mark) → Contains (take place ms) w
       → attribute_named names w.word ≡ Some column → ⊥
-  unnamed_before [] xs position m column each apart at known w has also = cc
-  unnamed_before (n ∷ ms) [] position m column each apart at known w has also = absurd each
+  unnamed_before [] xs place m column each apart at known w has also = cc
+  unnamed_before (n ∷ ms) [] place m column each apart at known w has also = absurd each
   unnamed_before (n ∷ ms) (x ∷ xs) zero m column each apart at known w has also = Contains-nil w has
-  unnamed_before (n ∷ ms) (x ∷ xs) (suc position) m column each apart at known w has also = ⊎_elim
+  unnamed_before (n ∷ ms) (x ∷ xs) (suc place) m column each apart at known w has also = ⊎_elim
       (λ (same : w ≡ n).
-      let (other, is, there, low) = named_at ms xs position m each.1 at in
+      let (other, is, there, low) = named_at ms xs place m each.1 at in
       let first : Some x ≡ Some column = sym each.0.known ∙ ap (λ (v : Mark). attribute_named names v.word) (sym same) ∙ also in
       let later : Some other ≡ Some column = sym is.known ∙ known in
       first_pairs (λ (one another : ℕ). one ≡ another → ⊥) x xs other apart there cc)
-      (λ later. unnamed_before ms xs position m column each.1 (later_pairs (λ (one another : ℕ). one ≡ another → ⊥) x xs apart)
+      (λ later. unnamed_before ms xs place m column each.1 (later_pairs (λ (one another : ℕ). one ≡ another → ⊥) x xs apart)
       at known w later also)
-      (Contains-cases n (take position ms) w has)
+      (Contains-cases n (take place ms) w has)
 
 -- where a place is found, an element passes
 found : (p : List ℕ → Bool) (ys : List (List ℕ)) → is_some (position p ys) ≡ true
@@ -155,35 +155,35 @@ named_alike names one other same =
 module _ (names : List (List ℕ)) (ms : List Mark) (xs : List ℕ) (each : AllZip (NamesColumnAt names) ms xs)
     (some : 0 < length xs) (few : length xs ≤ MOST_LISTED_COLUMNS)
     (apart : AllPairs (λ (one other : ℕ). one ≡ other → ⊥) xs) where
-  right_word : (position : ℕ) (m : Mark) (why : DiagnosticKind) → slice_get ms position ≡ Some m
-      → ColumnDiagnostic names (take position ms) m why → ⊥
-  right_word position m why at (inl (inl (word, inl (is, reserved)))) =
-      let (column, named, has, low) = named_at names ms xs position m each at in
+  right_word : (place : ℕ) (m : Mark) (why : DiagnosticKind) → slice_get ms place ≡ Some m
+      → ColumnDiagnostic names (take place ms) m why → ⊥
+  right_word place m why at (inl (inl (word, inl (is, reserved)))) =
+      let (column, named, has, low) = named_at names ms xs place m each at in
       true≢false (sym reserved ∙ named.not_reserved)
-  right_word position m why at (inl (inl (word, inr (is, unknown)))) =
-      let (column, named, has, low) = named_at names ms xs position m each at in
+  right_word place m why at (inl (inl (word, inr (is, unknown)))) =
+      let (column, named, has, low) = named_at names ms xs place m each at in
       let wrong : Some column ≡ None = sym named.known ∙ unknown in cc
-  right_word position m why at (inl (inr (is, twice))) =
-      let (column, named, has, low) = named_at names ms xs position m each at in
-      let (word, there, alike) = found (λ name. same_name name m.word) (map (λ (w : Mark). w.word) (take position ms)) twice in
-      let (w, earlier, same) = map-member (λ (w : Mark). w.word) (take position ms) word there in
-      unnamed_before names ms xs position m column each apart at named.known w earlier
+  right_word place m why at (inl (inr (is, twice))) =
+      let (column, named, has, low) = named_at names ms xs place m each at in
+      let (word, there, alike) = found (λ name. same_name name m.word) (map (λ (w : Mark). w.word) (take place ms)) twice in
+      let (w, earlier, same) = map-member (λ (w : Mark). w.word) (take place ms) word there in
+      unnamed_before names ms xs place m column each apart at named.known w earlier
       (ap (attribute_named names) same ∙ named_alike names word m.word alike ∙ named.known)
-  right_word position m why at (inr (is, full)) =
-      let (column, named, has, low) = named_at names ms xs position m each at in
-      let short = length-take position ms in omega (arith, low, few, full, short)
+  right_word place m why at (inr (is, full)) =
+      let (column, named, has, low) = named_at names ms xs place m each at in
+      let short = length-take place ms in omega (arith, low, few, full, short)
 
-  right : (position : ℕ) (why : DiagnosticKind) → NamesDiagnostic (ColumnDiagnostic names) ms None position why → ⊥
-  right position why (inl (inl (m, at, words, inl (word, wrong)))) = right_word position m why at wrong
-  right position why (inl (inl (m, at, words, inr (is, none)))) =
-      let (column, named, has, low) = named_at names ms xs position m each at in true≢false (sym named.word ∙ none)
-  right position why (inl (inr (is, first, empty, ended))) = no_words ms xs each empty some
+  right : (place : ℕ) (why : DiagnosticKind) → NamesDiagnostic (ColumnDiagnostic names) ms None place why → ⊥
+  right place why (inl (inl (m, at, words, inl (word, wrong)))) = right_word place m why at wrong
+  right place why (inl (inl (m, at, words, inr (is, none)))) =
+      let (column, named, has, low) = named_at names ms xs place m each at in true≢false (sym named.word ∙ none)
+  right place why (inl (inr (is, first, empty, ended))) = no_words ms xs each empty some
     where
       no_words : (ns : List Mark) (ys : List ℕ) → AllZip (NamesColumnAt names) ns ys → ns ≡ [] → 0 < length ys → ⊥
       no_words [] [] all nil long = omega (arith, long)
       no_words [] (y ∷ ys) all nil long = absurd all
       no_words (n ∷ ns) ys all nil long = cc
-  right position why (inr (s, stops, rest)) = cc
+  right place why (inr (s, stops, there, rest)) = cc
 
 -- ---- the words of the command
 module _ (names : List (List ℕ)) (text : List ℕ) where
@@ -197,7 +197,7 @@ module _ (names : List (List ℕ)) (text : List ℕ) where
   one_complaint e f first second =
       let read : Lexed = lex (mode.goal Any) text in
       one_first (NamesDiagnostic (ColumnDiagnostic names) read.marks read.stop) NamesWant (span_at 1 1 read.marks read.stop) e f
-      (λ (position : ℕ). AtFirst-one what.Name position) first second
+      (λ (place : ℕ). AtFirst-one what.Name place) first second
 
   never_refused : (xs : List ℕ) (e : SchemaRefusal) → MeansColumns names text xs → RefusesColumns names text e → ⊥
   never_refused xs e means refused =
@@ -294,7 +294,7 @@ pub checked_references : (files : List HeadedRows) (refs : List Reference) (ref 
     → ChecksReferences (file_at files ref.file) first (file_at files ref.target) second response
     → Contains refs ref ↔ ((response.status ≡ Yes) × HasWholeRow (file_at files ref.file).rows ref.columns)
 checked_references files refs ref first second response are candidate stated also checks =
-    (λ has. listed (All-contains (IsReference files) refs ref are.each has) says, λ yes. confirmed yes.0 yes.1 says)
+    (λ has. listed (All-contains (IsReference files) refs ref are.each has) says, λ both. confirmed both.0 both.1 says)
   where
     says : JudgesReference (file_at files ref.file) ref.columns (file_at files ref.target) ref.key response
     says =
@@ -309,6 +309,6 @@ checked_references files refs ref first second response are candidate stated als
 
     confirmed : response.status ≡ Yes → HasWholeRow (file_at files ref.file).rows ref.columns
         → JudgesReference (file_at files ref.file) ref.columns (file_at files ref.target) ref.key response → Contains refs ref
-    confirmed yes some_row (inl (within, said)) =
+    confirmed says_yes some_row (inl (within, said)) =
         are.all ref (record { candidate = candidate; within = within; some_row = some_row })
-    confirmed yes some_row (inr (not_within, said)) = absurd (no_not_yes response yes (status_is response _ said))
+    confirmed says_yes some_row (inr (not_within, said)) = absurd (no_not_yes response says_yes (status_is response _ said))
