@@ -22,18 +22,18 @@ loop-attribute-preserved c =
     let member = sym c.contains.ensures.member in
     elim c.if-contains.branch [
       | then-contains+then-is_subset+in_ok-push w ↦ record {
-          adds = subst (AddsLargerUpTo whole x (a + 1) old) (sym (ap (λ v. v.items) w.larger-is ∙ w.in_ok-push.ensures.items))
-              (one_larger whole x a old now w.with.result (member ∙ w.if-contains.true)
-              (subst (IsSubset x) w.full.ensures.members (w.is_subset.ensures.subset.0 w.if-is_subset.true)) w.with.ensures.members before);
-        }
+        adds = subst (AddsLargerUpTo whole x (a + 1) old) (sym (ap (λ v. v.items) w.larger-is ∙ w.in_ok-push.ensures.items))
+            (one_larger whole x a old now w.with.result (member ∙ w.if-contains.true)
+            (subst (IsSubset x) w.full.ensures.members (w.is_subset.ensures.subset.0 w.if-is_subset.true)) w.with.ensures.members before);
+      }
       | else-contains w ↦ record {
-          adds = subst (AddsLargerUpTo whole x (a + 1) old) (sym (ap (λ v. v.items) w.larger-is)) (elim w.else-contains.branch [
-            | else-contains-via-then-contains+else-is_subset v ↦ no_larger whole x a old now
-                (λ has within. true≢false (sym (v.is_subset.ensures.subset.1 (subst (IsSubset x) (sym v.full.ensures.members) within)) ∙ v.if-is_subset.false)) before
-            | else-contains-via-else-contains v ↦ no_larger whole x a old now
-                (λ has within. true≢false (sym has ∙ member ∙ v.if-contains.false)) before
-          ]);
-        }
+        adds = subst (AddsLargerUpTo whole x (a + 1) old) (sym (ap (λ v. v.items) w.larger-is)) (elim w.else-contains.branch [
+          | else-contains-via-then-contains+else-is_subset v ↦ no_larger whole x a old now
+              (λ has within. true≢false (sym (v.is_subset.ensures.subset.1 (subst (IsSubset x) (sym v.full.ensures.members) within)) ∙ v.if-is_subset.false)) before
+          | else-contains-via-else-contains v ↦ no_larger whole x a old now
+              (λ has within. true≢false (sym has ∙ member ∙ v.if-contains.false)) before
+        ]);
+      }
     ]
 
 pub returns : goal.returns

@@ -33,18 +33,20 @@ loop-row-preserved c =
       found = elim c.if-are_there.branch [
         | then-are_there+then-not-has_values+in_ok-push w ↦
             let whole = whole_as_read x t read _ c.in_ok-take_on.ensures.values (sym w.if-are_there.true ∙ there) in
-            let matched = match_is others k (values_on x t) keys w.has_values.result c.in_ok-values.ensures.values
-            (λ h. subst (Contains keys) c.in_ok-take_on.ensures.values (w.has_values.ensures.has.0 h),
-            λ h. w.has_values.ensures.has.1 (subst (Contains keys) (sym c.in_ok-take_on.ensures.values) h)) ∙ w.if-not-has_values.true in
+            let matched = match_is others k (values_on x t) keys w.has_values.result c.in_ok-values.ensures.values (
+              λ h. subst (Contains keys) c.in_ok-take_on.ensures.values (w.has_values.ensures.has.0 h),
+              λ h. w.has_values.ensures.has.1 (subst (Contains keys) (sym c.in_ok-take_on.ensures.values) h),
+            ) ∙ w.if-not-has_values.true in
             ap (λ v. v.items) w.found-is ∙ w.in_ok-push.ensures.items
             ∙ unmatched_more rows x others k i c.loop-row.found.items before (unmatched_is x others k t true false whole matched)
         | else-are_there w ↦
             ap (λ v. v.items) w.found-is ∙ matched_more rows x others k i c.loop-row.found.items before (elim w.else-are_there.branch [
               | else-are_there-via-then-are_there+else-not-has_values v ↦
                   let whole = whole_as_read x t read _ c.in_ok-take_on.ensures.values (sym v.if-are_there.true ∙ there) in
-                  let matched = match_is others k (values_on x t) keys v.has_values.result c.in_ok-values.ensures.values
-                  (λ h. subst (Contains keys) c.in_ok-take_on.ensures.values (v.has_values.ensures.has.0 h),
-                  λ h. v.has_values.ensures.has.1 (subst (Contains keys) (sym c.in_ok-take_on.ensures.values) h)) ∙ v.if-not-has_values.false in
+                  let matched = match_is others k (values_on x t) keys v.has_values.result c.in_ok-values.ensures.values (
+                    λ h. subst (Contains keys) c.in_ok-take_on.ensures.values (v.has_values.ensures.has.0 h),
+                    λ h. v.has_values.ensures.has.1 (subst (Contains keys) (sym c.in_ok-take_on.ensures.values) h),
+                  ) ∙ v.if-not-has_values.false in
                   unmatched_is x others k t true true whole matched
               | else-are_there-via-else-are_there v ↦
                   let whole = whole_as_read x t read _ c.in_ok-take_on.ensures.values (sym v.if-are_there.false ∙ there) in

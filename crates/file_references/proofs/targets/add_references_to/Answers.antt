@@ -49,8 +49,11 @@ returns c =
     let n = length (file_at files target).names in
     let shared = attributes c.shared_columns-shared.result in
     let width : c.len-width.result ≡ n = omega (arith, c.len-width.ensures, counted c.args.files.now target c.index-files-target-2.result, ap (λ (f : HeadedRows). length f.names) here) in
-    let low : n ≤ MOST_ATTRIBUTES = omega (arith, ap (λ (f : HeadedRows). length f.names) here,
-    (c.requires.header target c.index-files-target-2.result c.requires.target).within_limit) in
+    let low : n ≤ MOST_ATTRIBUTES = omega (
+      arith,
+      ap (λ (f : HeadedRows). length f.names) here,
+      (c.requires.header target c.index-files-target-2.result c.requires.target).within_limit,
+    ) in
     let ones : AreAllOfSize (below n) 1 c.in_ok-columns.columns.items = subst (λ (x : Attributes). AreAllOfSize x 1 c.in_ok-columns.columns.items)
     (c.full.ensures.members ∙ ap below width) c.in_ok-columns.ensures.sets in
     let twos : AreAllOfSize shared 2 c.in_ok-pairs.pairs.items = c.in_ok-pairs.ensures.sets 1

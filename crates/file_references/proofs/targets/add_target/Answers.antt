@@ -83,8 +83,11 @@ returns-in_ok-push-in-Some c = record {
       let columns = c.in_ok-columns.ensures.columns ∙ ap (λ (m : ℕ). members_below m x) width in
       let holds = moved_hold _ _ _ _ (tuples_of c.in-Some.values.keys) (sym (ap (λ (f : HeadedRows). f.rows) again)) (c.deref-2.ensures.value ∙ columns)
       (MatchOption-at_some _ _ c.in-Some.values c.in-Some.is c.in_ok-key_values.ensures.key) in
-      let low : n ≤ MOST_ATTRIBUTES = omega (arith, ap (λ (f : HeadedRows). length f.names) here,
-      (c.requires.header target c.index-files-target.result c.requires.target).within_limit) in
+      let low : n ≤ MOST_ATTRIBUTES = omega (
+        arith,
+        ap (λ (f : HeadedRows). length f.names) here,
+        (c.requires.header target c.index-files-target.result c.requires.target).within_limit,
+      ) in
       let free : Any (λ (k : AttrSet). IsSubset (attributes k) x) c.args.keys.now.items → ⊥ = λ any. true≢false
       (sym (c.has_within.ensures.has.1 (subst (λ (ks : List AttrSet). Any (λ (k : AttrSet). IsSubset (attributes k) x) ks) (sym c.deref.ensures.value) any)) ∙ c.if-has_within.false) in
       let key = is_new_key files target shared size sets first c.args.keys.now.items found c.args.set start low c.requires.two looked free holds.key in
