@@ -7,6 +7,7 @@ implies FILE TEXT
 check proof FILE FILE TEXT
 check derivation FILE FILE TEXT
 check rows FILE FILE
+check references FILE NAMES FILE NAMES2
 check key FILE TEXT
 check join FILE FILE
 check form 2nf|3nf|bcnf|4nf FILE FILE
@@ -43,6 +44,7 @@ discover FILE
 discover NUMBER FILE
 discover keys|all FILE
 discover near NUMBER NUMBER FILE
+discover references FILE..
 import csv FILE
 import sqlite|postgres FILE TEXT
 rejoin FILE FILE..
