@@ -1,3 +1,4 @@
 mod ColumnLemmas
 mod PrintedLemmas
 pub mod ReadingLemmas
+mod ZipLemmas
