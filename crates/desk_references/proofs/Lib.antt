@@ -1,4 +1,5 @@
 mod ColumnLemmas
 mod PrintedLemmas
 pub mod ReadingLemmas
+mod TextLemmas
 mod ZipLemmas

@@ -5,7 +5,9 @@ use Rattle.std.proofs.lemmas.Bool.{eqb-true}
 use Rattle.lexer.specs.Tokens.{Mark}
 use Rattle.schema_grammar.specs.Declarations.{mark_of}
 use Rattle.tokens.specs.Views.{rest_of}
-use Rattle.desk_references.specs.ColumnLists.{RefusesColumns}
+use Rattle.std.specs.List.{AllZip}
+use Rattle.desk_references.specs.ColumnLists.{NamesColumnAt, RefusesColumns}
+use Rattle.desk_references.specs.ColumnSteps.{NamesNext}
 use Rattle.desk_references.proofs.ReadingLemmas.{AreRead, lexed, no_column, one_more, refused_at, stopped_at}
 use Rattle.lexer.specs.Tokens.{bytes_of}
 use Rattle.desk_references.proofs.columns.read_columns.Goals as goal
@@ -31,7 +33,8 @@ returns-in-Err-clause-err c =
     let m = mark_of c.in-Token.token (bytes_of c.in-Token.word) in
     subst (RefusesColumns names text) (sym c.refusal_of.ensures.refusal)
     (refused_at names text columns (rest_of c.columns.rest) read m (rest_of c.in-Token.after) c.in-Token.ensures.exact.led c.in-Err.kind
-    (c.in-Err.ensures.err (take (length columns) (lexed text).marks) m read.named refl refl))
+    (c.in-Err.ensures.err (take (length columns) (lexed text).marks) m
+    (subst (AllZip (NamesColumnAt names) (take (length columns) (lexed text).marks)) (sym c.deref.ensures.value) read.named) refl refl))
 
 pub columns-preserved : goal.columns-preserved
 columns-preserved c =
@@ -44,5 +47,7 @@ columns-preserved c =
     record {
       read = subst (λ (cs : List ℕ). AreRead names text cs after) (sym c.in_ok-push-in-Ok.ensures.items)
           (one_more names text columns (rest_of c.columns.rest) read m after c.in-Token.ensures.exact.led c.in-Ok.column
-          (c.in-Ok.ensures.column (take (length columns) (lexed text).marks) m read.named refl refl));
+          (subst (λ (cs : List ℕ). NamesNext names (take (length columns) (lexed text).marks) cs m c.in-Ok.column) c.deref.ensures.value
+          (c.in-Ok.ensures.column (take (length columns) (lexed text).marks) m
+          (subst (AllZip (NamesColumnAt names) (take (length columns) (lexed text).marks)) (sym c.deref.ensures.value) read.named) refl refl)));
     }
