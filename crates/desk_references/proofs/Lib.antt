@@ -1,3 +1,4 @@
+mod CheckLemmas
 mod ColumnLemmas
 mod PrintedLemmas
 pub mod ReadingLemmas

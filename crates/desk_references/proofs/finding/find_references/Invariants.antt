@@ -8,5 +8,5 @@ use Rattle.desk_references.proofs.finding.find_references.Given as goal
 -- the lines so far
 abbrev pub invariant-loop-reference : goal.invariant-loop-reference
 invariant-loop-reference l = record {
-  lines : l.text.items ≡ flat_map (reference_text l.names (map headed_of l.files)) (map reference_of (take l.reference-index l.found.items));
+  lines : l.text.items ≡ flat_map (reference_text l.names (map headed_of l.files)) (map reference_of (take l.reference-index l.reference-items));
 }
