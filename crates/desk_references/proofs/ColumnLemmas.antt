@@ -1,20 +1,26 @@
 -- A list of columns, token by token: what a token names after others, or why it is refused.
 use Rattle.std.specs.Prelude.{AllPairs, Contains}
-use Rattle.std.specs.List.{All, AllZip, position_or_len, slice_get}
+use Rattle.std.specs.List.{All, AllZip, list_any, position_or_len, slice_get}
 use Rattle.std.specs.Option.{is_some}
 use Rattle.std.specs.Str.{bytes_eq, str_to_ascii_lowercase}
-use Rattle.std.proofs.Common.{inl, inr, ◌≡◌, ◌<◌, ◌≤◌, ◌+◌, ◌⊎◌, ℕ, zero, suc, Bool, true, false, true≢false, cond, nat_lt, List, [], ◌∷◌, ◌++◌, length, map, take, get_or, position, Option, Some, None, Ok, Err, Result, refl, sym, ap, subst, ◌∙◌, ⊎_elim, arith}
+use Rattle.std.proofs.Common.{inl, inr, ◌≡◌, ◌<◌, ◌≤◌, ◌+◌, ◌⊎◌, ℕ, zero, suc, Bool, true, false, true≢false, cond, nat_lt, if◌then◌else◌, ◌==◌, List, [], ◌∷◌, ◌++◌, length, map, take, get_or, position, Option, Some, None, Ok, Err, Result, refl, sym, ap, subst, ◌∙◌, ⊎_elim, arith}
 use Rattle.std.proofs.lemmas.Bool.{cases_Bool, cases_lt, lt-ltb}
 use Rattle.std.proofs.lemmas.Slice.Eq.{bytes_eq-Decides}
 use Rattle.std.proofs.lemmas.List.{get_or-map, length-map}
-use Rattle.std.proofs.lemmas.List.Elements.{AllZip-get_or, Contains-get_or, length_all_zip}
+use Rattle.std.proofs.lemmas.List.Elements.{Contains-get_or}
 use Rattle.std.proofs.lemmas.List.Quantifiers.{position-Some}
 use Rattle.std.proofs.lemmas.List.Sums.{fails_before_first}
+use Rattle.std.proofs.lemmas.List.Folds.{Any-from_list_any, list_any-from_Any}
+use Rattle.std.proofs.lemmas.Bool.{eqb-true}
+use Rattle.std.proofs.lemmas.Bool.Decides.{nat_tests}
 use Rattle.dep_model.proofs.ListLemmas.{same_default}
 use Rattle.desk_references.specs.ColumnLists.{ColumnDiagnostic, NamesColumnAt}
 use Rattle.desk_references.specs.ColumnSteps.{IsRefusedNext, NamesNext}
 use Rattle.desk_references.specs.declared.columns.TheConstants.{MOST_LISTED_COLUMNS}
+use Rattle.desk_references.proofs.ZipLemmas.{zip_at, zip_length}
 use Rattle.lexer.specs.Tokens.{Mark}
+use Rattle.lexer.specs.declared.token.TokenKind.{TokenKind}
+use Rattle.lexer.specs.declared.token.TokenKind.TheVariants as token
 use Rattle.schema_grammar.specs.DiagnosticKinds.{DiagnosticKind, diagnostic_kind, double_name, expected, number_of}
 use Rattle.schema_grammar.specs.Diagnostics.{Carries, DiagnosesOfWord, NamesWant, TokenDiagnostic}
 use Rattle.schema_grammar.specs.Words.{is_reserved_token, is_word_token, known_attribute, look_up}
@@ -55,9 +61,44 @@ some_value : (o : Option ℕ) → is_some o ≡ true → (i : ℕ) × (o ≡ Som
 some_value None h = cc
 some_value (Some i) h = (i, refl)
 
+-- ---- tokens that are words
+pub word_kind : (k : TokenKind) → (k ≡ token.Identifier) ⊎ (k ≡ token.Quoted) → is_word_token k ≡ true
+word_kind k (inl is) = ap is_word_token is
+word_kind k (inr is) = ap is_word_token is
+
+pub no_word_kind : (k : TokenKind) → (k ≡ token.Identifier → ⊥) → (k ≡ token.Quoted → ⊥) → is_word_token k ≡ false
+no_word_kind token.Identifier first second = absurd (first refl)
+no_word_kind token.Quoted first second = absurd (second refl)
+no_word_kind _ first second = refl
+
+-- what a word stands for, or why it stands for nothing
+looked_ok : (b : Bool) (o : Option ℕ) (column : ℕ) → (if b then Err kind.ReservedName else known_attribute o) ≡ Ok column
+    → (b ≡ false) × (o ≡ Some column)
+looked_ok true o column h = cc
+looked_ok false None column h = cc
+looked_ok false (Some x) column h = (refl, cc)
+
+pub found_word : (names : List (List ℕ)) (m : Mark) (k : TokenKind) (w : List ℕ) (column : ℕ) → m.kind ≡ k → m.word ≡ w
+    → look_up format.Plain names k w ≡ Ok column
+    → (is_reserved_token format.Plain m.kind m.word ≡ false) × (attribute_named names m.word ≡ Some column)
+unfolding look_up
+found_word names m k w column kind_is word_is found =
+    looked_ok (is_reserved_token format.Plain m.kind m.word) (attribute_named names m.word) column
+    (ap (λ (l : TokenKind). look_up format.Plain names l m.word) kind_is ∙ ap (look_up format.Plain names k) word_is ∙ found)
+
+-- a column among others, as the code looks for it
+pub among : (xs : List ℕ) (x : ℕ) (b : Bool) → b ≡ list_any (λ (y : ℕ). y == x) xs → b ≡ true → Contains xs x
+among xs x b is has =
+    let (i, y, inside, at, same) = Any-from_list_any (λ (z : ℕ). z == x) xs (sym is ∙ has) in
+    subst (Contains xs) (eqb-true y x same) (i, inside, at)
+
+pub not_among : (xs : List ℕ) (x : ℕ) (b : Bool) → b ≡ list_any (λ (y : ℕ). y == x) xs → b ≡ false → Contains xs x → ⊥
+not_among xs x b is lacks (i, inside, at) =
+    true≢false (sym (list_any-from_Any (λ (z : ℕ). z == x) xs (i, x, inside, at, grind (arith, nat_tests))) ∙ sym is ∙ lacks)
+
 module _ (names : List (List ℕ)) (before : List Mark) (columns : List ℕ) (named : AllZip (NamesColumnAt names) before columns) where
   size : length before ≡ length columns
-  size = length_all_zip (NamesColumnAt names) before columns named
+  size = zip_length (NamesColumnAt names) before columns named
 
   abbrev words : List (List ℕ)
   words = map (λ (w : Mark). w.word) before
@@ -71,7 +112,7 @@ module _ (names : List (List ℕ)) (before : List Mark) (columns : List ℕ) (na
   named_twice word column m (i, inside, at) is =
       let low_i : i < length before = omega (arith, inside, size) in
       let here : NamesColumnAt names (get_or before i m) (get_or columns i column) =
-      AllZip-get_or (NamesColumnAt names) before columns i m column named low_i in
+      zip_at (NamesColumnAt names) before columns i m column named low_i in
       let first = position-Some (λ (name : List ℕ). same_name name (get_or before i m).word) names column [] (here.known ∙ ap Some at) in
       let second = position-Some (λ (name : List ℕ). same_name name word) names column [] is in
       let same : low (get_or before i m).word ≡ low word =
@@ -87,7 +128,7 @@ module _ (names : List (List ℕ)) (before : List Mark) (columns : List ℕ) (na
       let at = position-Some (λ (name : List ℕ). same_name name word) words i [] is in
       let low_i : i < length before = omega (arith, at.0, length-map before (λ (w : Mark). w.word)) in
       let here : NamesColumnAt names (get_or before i m) (get_or columns i 0) =
-      AllZip-get_or (NamesColumnAt names) before columns i m 0 named low_i in
+      zip_at (NamesColumnAt names) before columns i m 0 named low_i in
       let same : low (get_or before i m).word ≡ low word =
       one_name (get_or before i m).word word (ap (λ (w : List ℕ). same_name w word) (sym (word_at i m low_i)) ∙ at.1) in
       (get_or columns i 0, sym (named_alike names (get_or before i m).word word same) ∙ here.known, Contains-get_or columns i 0 (omega (arith, low_i, size)))
@@ -188,7 +229,29 @@ module _ (names : List (List ℕ)) (before : List Mark) (columns : List ℕ) (na
                 of_word why (inl (w, inl (inl (of, inr (same, h))))) = never_unknown h
                 of_word why (inl (w, inl (inr (same, h)))) = never_twice h
                 of_word why (inl (w, inr (same, h))) = omega (arith, h, size, room)
-                of_word why (inr (same, no)) = true≢false (sym word ∙ no)
+                of_word why (inr (same, none)) = true≢false (sym word ∙ none)
+
+-- ---- a word that stands for no column
+pub not_found : (names : List (List ℕ)) (before : List Mark) (columns : List ℕ) → AllZip (NamesColumnAt names) before columns → (m : Mark)
+    → (k : TokenKind) (w : List ℕ) (why : SchemaRefusalKind) → is_word_token m.kind ≡ true → m.kind ≡ k → m.word ≡ w
+    → look_up format.Plain names k w ≡ Err why → IsRefusedNext names before m why
+unfolding look_up
+not_found names before columns named m k w why word kind_is word_is failed =
+    by (is_reserved_token format.Plain m.kind m.word) (attribute_named names m.word) refl refl
+    (ap (λ (l : TokenKind). look_up format.Plain names l m.word) kind_is ∙ ap (look_up format.Plain names k) word_is ∙ failed)
+  where
+    same_err : (x y : SchemaRefusalKind) → (r : Result ℕ SchemaRefusalKind) → r ≡ Err x → r ≡ Err y → x ≡ y
+    same_err x y r a b = let both : Err x ≡ Err y = sym a ∙ b in cc
+
+    by : (b : Bool) (o : Option ℕ) → is_reserved_token format.Plain m.kind m.word ≡ b → attribute_named names m.word ≡ o
+        → (if b then Err kind.ReservedName else known_attribute o) ≡ Err why → IsRefusedNext names before m why
+    by true o reserved is h =
+        subst (IsRefusedNext names before m) (same_err kind.ReservedName why (Err kind.ReservedName) refl h)
+        (reserved_word names before columns named m word reserved)
+    by false None free is h =
+        subst (IsRefusedNext names before m) (same_err kind.UnknownName why (Err kind.UnknownName) refl h)
+        (unknown_word names before columns named m word free is)
+    by false (Some x) free is h = cc
 
 -- ---- names of a list
 pub self : (name : List ℕ) → same_name name name ≡ true

@@ -1,3 +1,6 @@
+mod CheckLemmas
 mod ColumnLemmas
 mod PrintedLemmas
 pub mod ReadingLemmas
+mod TextLemmas
+mod ZipLemmas

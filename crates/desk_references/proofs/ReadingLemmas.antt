@@ -5,12 +5,12 @@ use Rattle.std.proofs.Common.{inl, inr, ◌≡◌, ◌<◌, ◌≤◌, ◌+◌, 
 use Rattle.std.proofs.Math.Seq.{take-length, take-suc}
 use Rattle.std.proofs.lemmas.Bool.{cases_order}
 use Rattle.std.proofs.lemmas.List.{length-append, nil_from_length}
-use Rattle.std.proofs.lemmas.List.Elements.{length_all_zip}
 use Rattle.std.proofs.lemmas.Option.{get_or_from_slice_get, slice_get_within}
 use Rattle.dep_model.proofs.PairLemmas.{no_pairs, pairs_append}
 use Rattle.desk_references.specs.ColumnLists.{ColumnDiagnostic, MeansColumns, NamesColumnAt, RefusesColumns}
 use Rattle.desk_references.specs.ColumnSteps.{IsRefusedNext, NamesNext}
 use Rattle.desk_references.specs.declared.columns.TheConstants.{MOST_LISTED_COLUMNS}
+use Rattle.desk_references.proofs.ZipLemmas.{zip_length, zip_push}
 use Rattle.lexer.specs.Modes as mode
 use Rattle.lexer.specs.Tokens.{Lexed, Mark, lex}
 use Rattle.lexer.specs.declared.token.LexError.{LexError}
@@ -29,12 +29,17 @@ use Rattle.schema_model.specs.declared.naming.Naming.TheVariants.{Any}
 use Rattle.std.specs.List.{All}
 use Rattle.tokens.specs.Views.{HasEnded, IsLed, IsStopped}
 
-zip_push : {X Y : Type 0} (R : X → Y → Type 0) (xs : List X) (ys : List Y) (x : X) (y : Y) → AllZip R xs ys → R x y
-    → AllZip R (xs ++ x ∷ []) (ys ++ y ∷ [])
-zip_push R [] [] x y h r = (r, tt)
-zip_push R [] (b ∷ ys) x y h r = absurd h
-zip_push R (a ∷ xs) [] x y h r = absurd h
-zip_push R (a ∷ xs) (b ∷ ys) x y h r = (h.0, zip_push R xs ys x y h.1 r)
+-- words that name columns are words
+all_more : (P : Mark → Type 0) (w : Mark) (ms : List Mark) → P w → All P ms → All P (w ∷ ms)
+all_more P w ms first rest zero d l = first
+all_more P w ms first rest (suc i) d l = rest i d (omega (arith, l))
+
+are_words : (names : List (List ℕ)) (ms : List Mark) (xs : List ℕ) → AllZip (NamesColumnAt names) ms xs
+    → All (λ (w : Mark). is_word_token w.kind ≡ true) ms
+are_words names [] xs h = λ i d l. absurd (omega (arith, l))
+are_words names (w ∷ ms) [] h = absurd h
+are_words names (w ∷ ms) (x ∷ xs) h =
+    all_more (λ (v : Mark). is_word_token v.kind ≡ true) w ms h.0.word (are_words names ms xs h.1)
 
 abbrev pub lexed : List ℕ → Lexed
 lexed text = lex (mode.goal Any) text
@@ -106,9 +111,9 @@ module _ (names : List (List ℕ)) (text : List ℕ) (columns : List ℕ) (rest 
       (λ why wrong. ended_least why wrong stop)
     where
       ended_least : (why : DiagnosticKind) → Wrong names text k why → (lexed text).stop ≡ None → 6 ≤ number_of why
-      ended_least why (inl (inl (m, is, rest_of_it))) none = absurd (omega (arith, all_read ended.marks, slice_get_within whole k m is))
-      ended_least why (inl (inr (six, more))) none = omega (arith, ap number_of six)
-      ended_least why (inr (s, is, more)) none = let wrong = sym none ∙ is in cc
+      ended_least why (inl (inl (m, is, words, rest_of_it))) none = absurd (omega (arith, all_read ended.marks, slice_get_within whole k m is))
+      ended_least why (inl (inr (six, at, nothing, ends))) none = omega (arith, ap number_of six)
+      ended_least why (inr (s, is, at, flawed)) none = let wrong = sym none ∙ is in cc
 
   -- ---- bytes that are no token
   pub stopped_at : (e : SchemaRefusal) → IsStopped rest e → RefusesColumns names text e
@@ -125,7 +130,7 @@ module _ (names : List (List ℕ)) (text : List ℕ) (columns : List ℕ) (rest 
     where
       flaw_first : (why : DiagnosticKind) → Wrong names text k why → (s : LexError) → (lexed text).stop ≡ Some s
           → number_of (diagnostic_kind (kind_of_flaw s.flaw)) ≤ number_of why
-      flaw_first why (inl (inl (m, is, more))) s stop = absurd (omega (arith, all_read stopped.marks, slice_get_within whole k m is))
+      flaw_first why (inl (inl (m, is, words, more))) s stop = absurd (omega (arith, all_read stopped.marks, slice_get_within whole k m is))
       flaw_first why (inl (inr (six, position, nothing, none))) s stop = let wrong = sym none ∙ stop in cc
       flaw_first why (inr (t, is, position, number)) s stop = flaw_least s t why (sym stop ∙ is) number
 
@@ -150,29 +155,18 @@ module _ (names : List (List ℕ)) (text : List ℕ) (columns : List ℕ) (rest 
     of_token why (inl (inr (six, position, nothing, none))) = absurd (omega (arith, inside, ap length nothing))
     of_token why (inr (s, is, position, number)) = absurd (omega (arith, inside, position))
 
-    -- the tokens before it are words
-    are_words : (ms : List Mark) (xs : List ℕ) → AllZip (NamesColumnAt names) ms xs → All (λ (w : Mark). is_word_token w.kind ≡ true) ms
-    are_words [] [] h = λ i d l. absurd (omega (arith, l))
-    are_words (w ∷ ms) (x ∷ xs) h = by_place
-      where
-        by_place : All (λ (v : Mark). is_word_token v.kind ≡ true) (w ∷ ms)
-        by_place zero d l = h.0.word
-        by_place (suc i) d l = are_words ms xs h.1 i d (omega (arith, l))
-    are_words [] (x ∷ xs) h = absurd h
-    are_words (w ∷ ms) [] h = absurd h
-
     pub refused_at : (why : SchemaRefusalKind) → IsRefusedNext names (take k whole) m why
         → RefusesColumns names text (refusal rest.line m.column m.length why)
     refused_at why refused =
         first_at (Wrong names text) NamesWant (span text) _ k read.before
-        (inl (inl (m, here, are_words (take k whole) columns read.named, refused.stands)))
+        (inl (inl (m, here, are_words names (take k whole) columns read.named, refused.stands)))
         (subst (λ (n : ℕ). Carries (NamesWant n) why) (length_taken) refused.carries)
         (ap (λ (line : ℕ). record { line = line; column = m.column; length = m.length }) read.line
         ∙ sym (place (m ∷ after.marks) (lexed text).stop led.marks read.stop))
         (λ other wrong. refused.least other (of_token other wrong))
       where
         length_taken : length (take k whole) ≡ k
-        length_taken = length_all_zip (NamesColumnAt names) (take k whole) columns read.named
+        length_taken = zip_length (NamesColumnAt names) (take k whole) columns read.named
 
     pub one_more : (column : ℕ) → NamesNext names (take k whole) columns m column → AreRead names text (columns ++ column ∷ []) after
     one_more column next = record {

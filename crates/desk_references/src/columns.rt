@@ -102,7 +102,10 @@ fn column_of(
 {
     match kind {
         TokenKind::Identifier | TokenKind::Quoted => {
-            let column = look_up(&Names::Listed(names), Format::Plain, kind, word)? as usize;
+            let column = match look_up(&Names::Listed(names), Format::Plain, kind, word) {
+                Ok(column) => column as usize,
+                Err(why) => return Err(why),
+            };
             if before.contains(&column) {
                 return Err(SchemaRefusalKind::DoubleName);
             }
