@@ -1,15 +1,18 @@
 -- Columns that are named, and rows without a match, within their bounds.
 use Rattle.std.specs.Prelude.{All}
 use Rattle.std.specs.List.{AllZip}
-use Rattle.std.proofs.Common.{inl, inr, ◌≡◌, ◌<◌, ◌≤◌, ℕ, zero, suc, List, [], ◌∷◌, ◌++◌, length, get_or, sym, subst, ap, ⊎_elim, arith}
+use Rattle.std.proofs.Common.{inl, inr, ◌≡◌, ◌<◌, ◌≤◌, ℕ, zero, suc, List, [], ◌∷◌, ◌++◌, length, get_or, map, sym, subst, ap, ◌∙◌, ⊎_elim, arith}
 use Rattle.std.proofs.lemmas.Grind.{common_steps}
+use Rattle.std.proofs.lemmas.List.{get_or-map, length-map}
 use Rattle.attr_sets.proofs.AttributesLemmas.{count_below-le}
 use Rattle.dep_model.proofs.SchemeLemmas.{length-members_below}
 use Rattle.dep_model.specs.Tuples.{Relation}
 use Rattle.desk_references.specs.ColumnLists.{AreColumns, NamesColumnAt}
 use Rattle.file_references.specs.Columns.{file_at}
 use Rattle.file_references.specs.Matches.{is_unmatched, unmatched_rows}
-use Rattle.file_references.specs.References.{AreNamesakes, IsOneColumn, IsReference, Reference}
+use Rattle.file_references.specs.Finds.{reference_of}
+use Rattle.file_references.specs.declared.reference.FoundReference.{FoundReference}
+use Rattle.file_references.specs.References.{AreAllReferences, AreNamesakes, IsOneColumn, IsReference, Reference}
 use Rattle.file_references.proofs.SetLemmas.{members_low}
 use Rattle.file_references.proofs.SourceLemmas.{all_named_low, key_low, named_low}
 use Rattle.headed_rows.specs.Headings.{HeadedRows}
@@ -48,6 +51,13 @@ pub target_low : (files : List HeadedRows) (ref : Reference) → IsReference fil
     → All (λ (k : ℕ). k < length (file_at files ref.target).names) ref.key
 target_low files ref is = key_low (length (file_at files ref.target).names) (file_at files ref.target).rows ref.key is.candidate.target
 
+-- of one of all
+pub reference_here : (files : List HeadedRows) (xs : List FoundReference) (i : ℕ) (x : FoundReference) → AreAllReferences files (map reference_of xs)
+    → i < length xs → x ≡ get_or xs i x → IsReference files (reference_of x)
+reference_here files xs i x all low is =
+    subst (IsReference files) (get_or-map reference_of xs i x (reference_of x) low ∙ ap reference_of (sym is))
+    (all.each i (reference_of x) (omega (arith, low, length-map xs reference_of)))
+
 -- ---- rows without a match
 pub unmatched_low : (r : Relation) (x : List ℕ) (s : Relation) (k : List ℕ) → All (λ (i : ℕ). i < length r) (unmatched_rows r x s k)
 unmatched_low r x s k = members_low (length r) (λ i. is_unmatched x s k (row_at r i))
@@ -58,5 +68,5 @@ unmatched_few r x s k =
 
 -- ---- the text of a reference, piece by piece
 pub six_pieces : (old a w r b v e one two three four five six : List ℕ) → one ≡ old ++ a → two ≡ one ++ w → three ≡ two ++ r
-    → four ≡ three ++ b → five ≡ four ++ v → six ≡ five ++ e → six ≡ old ++ (((a ++ w) ++ (r ++ (b ++ v))) ++ e)
-six_pieces old a w r b v e one two three four five six h1 h2 h3 h4 h5 h6 = grind (common_steps, h1, h2, h3, h4, h5, h6)
+    → four ≡ three ++ b → five ≡ four ++ v → six ≡ five ++ e → six ≡ old ++ ((((a ++ w) ++ r) ++ (b ++ v)) ++ e)
+six_pieces old a w r b v e one two three four five six h1 h2 h3 h4 h5 h6 = grind (arith, common_steps, h1, h2, h3, h4, h5, h6)

@@ -5,7 +5,7 @@ use Rattle.dep_model.proofs.ListLemmas.{same_default}
 use Rattle.desk_discovery.specs.Discoveries.{column_text}
 use Rattle.desk_references.proofs.CheckLemmas.{six_pieces}
 use Rattle.file_references.specs.Columns.{file_at}
-use Rattle.file_references.proofs.AddLemmas.{file_here}
+use Rattle.file_references.proofs.AddLemmas.{file_at_or}
 use Rattle.headed_rows.specs.Headings.{HeadedRows, headed_of}
 use Rattle.schema_printer.specs.Printing.{words_text}
 use Rattle.desk_references.proofs.finding.add_reference.Goals as goal
@@ -19,8 +19,8 @@ returns c =
     let target_low : ref.target < length names = omega (arith, c.requires.one_each, c.requires.target) in
     let file_name = c.bytes.ensures.bytes ∙ c.index-names-reference.is ∙ same_default names ref.file c.index-names-reference.result [] file_low in
     let target_name = c.bytes-2.ensures.bytes ∙ c.index-names-reference-2.is ∙ same_default names ref.target c.index-names-reference-2.result [] target_low in
-    let file_names = c.deref.ensures.value ∙ sym (ap (λ (h : HeadedRows). h.names) (file_here c.args.files.now ref.file c.index-files-reference.result c.requires.file c.index-files-reference.is)) in
-    let target_names = c.deref-3.ensures.value ∙ sym (ap (λ (h : HeadedRows). h.names) (file_here c.args.files.now ref.target c.index-files-reference-2.result c.requires.target c.index-files-reference-2.is)) in
+    let file_names = c.deref.ensures.value ∙ sym (ap (λ (h : HeadedRows). h.names) (file_at_or c.args.files.now ref.file c.index-files-reference.result c.requires.file)) in
+    let target_names = c.deref-3.ensures.value ∙ sym (ap (λ (h : HeadedRows). h.names) (file_at_or c.args.files.now ref.target c.index-files-reference-2.result c.requires.target)) in
     let columns = ap (λ (ns : List (List ℕ)). words_text (map (column_text ns) c.deref-2.result.now)) file_names
     ∙ ap (λ (ks : List ℕ). words_text (map (column_text (file_at files ref.file).names) ks)) c.deref-2.ensures.value in
     let key = ap (λ (ns : List (List ℕ)). words_text (map (column_text ns) c.deref-4.result.now)) target_names
