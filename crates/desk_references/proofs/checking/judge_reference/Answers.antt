@@ -28,8 +28,12 @@ unmatched_text-requires-clause-rows c =
 
 pub unmatched_text-requires-clause-within_limit : goal.unmatched_text-requires-clause-within_limit
 unmatched_text-requires-clause-within_limit c =
-    omega (arith, ap (λ (rows : List ℕ). length rows) (c.deref.ensures.value ∙ c.in_ok-rows.ensures.rows),
-    unmatched_few c.args.one.now.rows c.args.columns.now c.args.other.now.rows c.args.key.now, c.requires.within_limit)
+    omega (
+      arith,
+      ap (λ (rows : List ℕ). length rows) (c.deref.ensures.value ∙ c.in_ok-rows.ensures.rows),
+      unmatched_few c.args.one.now.rows c.args.columns.now c.args.other.now.rows c.args.key.now,
+      c.requires.within_limit,
+    )
 
 pub unmatched_text-requires-clause-first : goal.unmatched_text-requires-clause-first
 unmatched_text-requires-clause-first c =
