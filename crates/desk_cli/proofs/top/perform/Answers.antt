@@ -34,6 +34,11 @@ pub returns-in-CheckReferences-clause-reads : goal.returns-in-CheckReferences-cl
 returns-in-CheckReferences-clause-reads g c =
     subst (λ (command : Command). BeginsFront (files_of_command (command_form command)) (g.F.FileSource.begun c.args.source.now) (g.F.FileSource.begun c.of_two_headed.new.source)) (sym c.in-CheckReferences.is) c.of_two_headed.ensures.reads
 
+pub returns-in-CheckReferences-clause-response : goal.returns-in-CheckReferences-clause-response
+unfolding Performs
+returns-in-CheckReferences-clause-response g c = λ r shows.
+    subst (λ (command : Command). RespondsAs (Performs (g.M.FolderMaker.may_be_free c.args.place.now) r (command_form command)) c.of_two_headed.result) (sym c.in-CheckReferences.is) (c.of_two_headed.ensures.response r shows)
+
 pub returns-in-ImportCsv-clause-reads : goal.returns-in-ImportCsv-clause-reads
 returns-in-ImportCsv-clause-reads g c =
     subst (λ (command : Command). BeginsFront (files_of_command (command_form command)) (g.F.FileSource.begun c.args.source.now) (g.F.FileSource.begun c.of_imported.new.source)) (sym c.in-ImportCsv.is) c.of_imported.ensures.reads
