@@ -1,4 +1,4 @@
--- What is left to prove of `minimal_left_sides`: what its calls require, that the invariant of its loop holds at first
+-- What is left to prove of `tested_left_sides`: what its calls require, that the invariant of its loop holds at first
 -- and stays, and its clauses, by `SideLemmas` and `TestLemmas`.
 use Rattle.std.proofs.Common.{◌+◌, ℕ, List, sym, ap, subst, ◌∙◌, arith}
 use Rattle.std.specs.Prelude.{All, Contains}
@@ -15,7 +15,7 @@ use Rattle.candidate_search.proofs.FindingLemmas.{none_found}
 use Rattle.candidate_search.proofs.LevelLemmas.{tabled_coded}
 use Rattle.candidate_search.proofs.SideLemmas.{side_minimal, sides_candidates}
 use Rattle.candidate_search.proofs.TestLemmas.{sides_answered}
-use Rattle.candidate_search.proofs.searching.minimal_left_sides.Goals as goal
+use Rattle.candidate_search.proofs.searching.tested_left_sides.Goals as goal
 
 pub sides_after-requires-clause-sides : goal.sides_after-requires-clause-sides
 sides_after-requires-clause-sides c =
