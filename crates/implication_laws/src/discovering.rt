@@ -10,6 +10,8 @@ ghost use Rattle.candidate_search.specs.declared.side.TooManyLeftSides.{TooManyL
 ghost use Rattle.fd_search.specs.Keys.{HasTooManyKeys};
 ghost use Rattle.headed_rows.specs.Headings.{HeadedRows};
 ghost use Rattle.headed_rows.specs.Headers.{IsColumnHeader, naming_under};
+ghost use Rattle.near_rules.specs.NearRules.{IsFirstExceeded};
+ghost use Rattle.near_rules.specs.declared.found.TooManyTried.{TooManyTried};
 ghost use Rattle.schema_grammar.specs.Schemas.{MeansSchema};
 ghost use Rattle.schema_grammar.specs.declared.format.TheConstants.{MOST_DEPENDENCY_LINES};
 ghost use Rattle.schema_printer.specs.Printing.{schema_text};
@@ -36,10 +38,13 @@ pub fn found_texts_mean_their_schema()
         }) }
 {}
 
-/// A file of at most 20 columns has too many left sides for none of them, and too few keys to be refused.
+/// A file of at most 20 columns is answered: it has too many left sides for none of them, of few attributes or near
+/// ones neither, and not too many keys.
 pub fn few_columns_are_answered()
     ensures left_sides { (most : ℕ) (headed : HeadedRows) (refusal : TooManyLeftSides) → length headed.names ≤ 20
         → HasTooManyLeftSides most headed refusal → ⊥ }
+    ensures near { (limit most : ℕ) (headed : HeadedRows) (refusal : TooManyTried) → length headed.names ≤ 20
+        → IsFirstExceeded (length headed.names) most limit headed.rows refusal → ⊥ }
     ensures keys { (headed : HeadedRows) → length headed.names ≤ 20
         → HasTooManyKeys (length headed.names) headed.rows → ⊥ }
 {}
