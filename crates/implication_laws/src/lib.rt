@@ -25,7 +25,7 @@ pub use answering::{
     implies_has_one_answer, keys_has_one_answer, project_has_one_answer,
 };
 pub use covering::minimal_covers_are_confirmed;
-pub use discovering::found_texts_mean_their_schema;
+pub use discovering::{few_columns_are_answered, found_texts_mean_their_schema};
 pub use exhibiting::{
     exhibits_are_legal, exhibits_decide_goals, rules_of_exhibits_are_answered_alike,
 };
