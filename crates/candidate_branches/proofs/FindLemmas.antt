@@ -1,6 +1,6 @@
 -- What is found branch by branch, in order, and what the largest evidence tells.
-use Rattle.std.proofs.Common.{inl, inr, ◌≡◌, ◌+◌, ◌^◌, ◌<◌, ◌≤◌, ◌⊎◌, ◌==◌, ℕ, suc, Bool, true, false, List, [], ◌∷◌, ◌++◌, length, map, get_or, Ordering, Less, Equal, Greater, is_eq, refl, sym, ap, subst, ◌∙◌, arith}
-use Rattle.std.specs.Prelude.{All, AllPairs, Any, Contains}
+use Rattle.std.proofs.Common.{inl, inr, ◌≡◌, ◌+◌, ◌^◌, ◌<◌, ◌≤◌, ◌⊎◌, ◌==◌, ℕ, suc, Bool, true, false, List, [], ◌∷◌, ◌++◌, length, map, get_or, Option, None, Some, Result, Ok, Err, Vec, Global, Ordering, Less, Equal, Greater, is_eq, refl, sym, ap, subst, ◌∙◌, arith}
+use Rattle.std.specs.Prelude.{All, AllPairs, Any, Contains, IfOk, IfSome}
 use Rattle.std.specs.List.{dedup}
 use Rattle.std.specs.Cmp.{IsEquivalence, IsTotalOrder}
 use Rattle.std.specs.List.Sorted.{IsPermutation, IsSorted, IsStrictlySortedBy}
@@ -61,7 +61,7 @@ module _ (n most a : ℕ) (es : List Attributes) (branch : Branch) (b : IsBranch
           | inl before ↦ inl before
           | inr last ↦ elim (Contains-cases (attributes branch.set) [] x last) [
             | inl same ↦ inr (subst (λ (y : Attributes). IsCandidate n most es a y) (sym same) set_candidate)
-            | inr no ↦ absurd (Contains-nil x no)
+            | inr never ↦ absurd (Contains-nil x never)
           ]
         ];
         kept = λ x h. Contains-append_left (schemes_of old) (attributes branch.set ∷ []) x h;
@@ -175,7 +175,7 @@ all_in_order n most a es branch found sorted once moved in_order is numbers adds
     each x has =
         let (s, s_in, at) = map-member attributes once x has in
         elim (adds.each x (subst (λ (y : Attributes). Contains (schemes_of found) y) at (Contains-map attributes found s (in_found s s_in)))) [
-          | inl no ↦ absurd (Contains-nil x no)
+          | inl never ↦ absurd (Contains-nil x never)
           | inr candidate ↦ candidate
         ]
 
@@ -267,3 +267,11 @@ module _ (n most a : ℕ) (es largest : List Attributes) (are : AreLargest a es 
         | inl same ↦ absurd (true≢false (sym m ∙ ap x (eqb-true k a same) ∙ is.outside))
         | inr out ↦ out
       ]
+
+-- ---- what is told of a list that is given
+pub listed_also : {E : Type 0} (P Q : List Attributes → Type 0) → ((xs : List Attributes) → P xs → Q xs) → (r : Result (Option (Vec AttrSet Global)) E)
+    → IfOk r (λ (listed : Option (Vec AttrSet Global)). IfSome listed (λ (sets : Vec AttrSet Global). P (schemes_of sets.items)))
+    → IfOk r (λ (listed : Option (Vec AttrSet Global)). IfSome listed (λ (sets : Vec AttrSet Global). Q (schemes_of sets.items)))
+listed_also P Q also (Ok None) h = h
+listed_also P Q also (Ok (Some sets)) h = also (schemes_of sets.items) h
+listed_also P Q also (Err e) h = h
