@@ -1,12 +1,12 @@
 -- The branch of one column more, and that no candidate above a branch is passed over.
-use Rattle.std.proofs.Common.{inl, inr, ◌≡◌, ◌+◌, ◌<◌, ◌≤◌, ◌⊎◌, ◌||◌, ◌==◌, ℕ, Bool, not, true, false, List, [], ◌∷◌, ◌++◌, length, filter, get_or, refl, sym, ap, subst, ◌∙◌, arith}
+use Rattle.std.proofs.Common.{inl, inr, ◌≡◌, ◌+◌, ◌<◌, ◌≤◌, ◌⊎◌, ◌||◌, ℕ, Bool, not, true, false, List, [], ◌∷◌, ◌++◌, filter, refl, sym, ap, subst, ◌∙◌, arith}
 use Rattle.std.specs.Prelude.{All, Any, Contains}
 use Rattle.std.proofs.lemmas.Bool.{cases_Bool, cases_eq, eq-eqb, eqb-true, false≢true, lt-ltb, ltb-true, true≢false}
 use Rattle.std.proofs.lemmas.Bool.Decides.{nat_tests}
 use Rattle.std.proofs.lemmas.List.{map-append}
 use Rattle.std.proofs.lemmas.List.Elements.{All-nil, All-push, Contains-append_cases, Contains-append_left, Contains-append_right}
 use Rattle.std.proofs.lemmas.List.Quantifiers.{Any-push}
-use Rattle.attr_sets.specs.Attributes.{Attributes, IsSubset, below, count_below, difference, only, union}
+use Rattle.attr_sets.specs.Attributes.{Attributes, IsSubset, below, difference, only, union}
 use Rattle.attr_sets.specs.Sets.{attributes}
 use Rattle.attr_sets.specs.declared.set.AttrSet.{AttrSet}
 use Rattle.attr_sets.proofs.AttributesLemmas.{count_below-lt, count_below-union_only, same_at, tell_subset}
@@ -16,7 +16,7 @@ use Rattle.dep_model.proofs.ListLemmas.{Any-left, Contains-map, map-member}
 use Rattle.candidate_sets.specs.Standing.{IsCandidate}
 use Rattle.candidate_sets.proofs.StandingLemmas.{tell_stands}
 use Rattle.candidate_branches.specs.declared.branch.Branch.{Branch}
-use Rattle.candidate_branches.specs.Branches.{has_column, lacks_column, IsEachLacked, IsWitnessed, LacksAlone, AreHolding, AreLackingOne, IsBranchWith, IsBranch, IsAboveSet, IsAbove, AreAbove, IsChild, AddsChild}
+use Rattle.candidate_branches.specs.Branches.{has_column, lacks_column, IsEachLacked, IsWitnessed, LacksAlone, AreHolding, AreLackingOne, IsBranchWith, IsBranch, IsAbove, AreAbove, IsChild, AddsChild}
 
 -- ---- members of sets
 pub or_left : (a b : Bool) → a ≡ true → (a || b) ≡ true
@@ -153,11 +153,13 @@ module _ (n most a : ℕ) (es : List Attributes) (set free : Attributes) (left :
   child_holding = record {
     each = λ e h.
         let (in_held, has) = has_to column held e h in
-        let (listed, holds) = b.holding.each e in_held in
-        (listed, λ k m. elim (with_cases set column k m) [
-          | inl in_set ↦ holds k in_set
-          | inr same ↦ ap e same ∙ has
-        ]);
+        let (listed, holds) = b.holding.each e in_held in (
+          listed,
+          λ k m. elim (with_cases set column k m) [
+            | inl in_set ↦ holds k in_set
+            | inr same ↦ ap e same ∙ has
+          ],
+        );
     all = λ e listed holds. has_from column held e (b.holding.all e listed (λ k m. holds k (with_old set column k m))) (holds column (with_new set column));
   }
 
@@ -165,15 +167,15 @@ module _ (n most a : ℕ) (es : List Attributes) (set free : Attributes) (left :
   child_lacking = record {
     each = λ e h. elim (Contains-append_cases (schemes_of (filter (has_column column) once)) (schemes_of (filter (lacks_column column) held)) e
         (subst (λ (xs : List Attributes). Contains xs e) (map-append attributes (filter (has_column column) once) (filter (lacks_column column) held)) h)) [
-      | inl first ↦
-          let (in_once, has) = has_to column once e first in
-          let found = b.lacking.each e in_once in
-          (found.0, (found.1.0, alone_with e found.1.0 found.1.1 has))
-      | inr second ↦
-          let (in_held, lacks) = lacks_to column held e second in
-          let (listed, holds) = b.holding.each e in_held in
-          (listed, (column, column_alone e holds lacks))
-    ];
+          | inl first ↦
+              let (in_once, has) = has_to column once e first in
+              let found = b.lacking.each e in_once in
+              (found.0, (found.1.0, alone_with e found.1.0 found.1.1 has))
+          | inr second ↦
+              let (in_held, lacks) = lacks_to column held e second in
+              let (listed, holds) = b.holding.each e in_held in
+              (listed, (column, column_alone e holds lacks))
+        ];
     all = λ e k listed alone. subst (λ (xs : List Attributes). Contains xs e) (sym (map-append attributes (filter (has_column column) once) (filter (lacks_column column) held)))
         (elim (cases_eq k column) [
           | inl same ↦ Contains-append_right (schemes_of (filter (has_column column) once)) (schemes_of (filter (lacks_column column) held)) e
@@ -205,7 +207,7 @@ module _ (n most a : ℕ) (es : List Attributes) (set free : Attributes) (left :
   pub child_with : column < n → (a ≡ column → ⊥) → IsEachLacked (schemes_of once) set column → (later : Attributes) → IsSubset later (below n) → later a ≡ false
       → (fewer : ℕ) → fewer + 1 ≡ left
       → IsBranchWith n most a es (union set (only column)) later fewer (schemes_of (filter (has_column column) held))
-          (schemes_of (filter (has_column column) once ++ filter (lacks_column column) held))
+      (schemes_of (filter (has_column column) once ++ filter (lacks_column column) held))
   child_with low other lacked later within outside fewer one = record {
     without = b.without;
     set_within = λ k m. elim (with_cases set column k m) [
@@ -242,8 +244,7 @@ module _ (n most a : ℕ) (es : List Attributes) (set free : Attributes) (left :
                 | inr apart ↦ found.3 j (rest_from x k j m apart)
               ]))
               | inr out ↦ out
-            ] in
-            (
+            ] in (
               e,
               b.lacking.all e k found.1 (record {
                 member = in_set;
@@ -354,7 +355,7 @@ module _ (n most a : ℕ) (es : List Attributes) (branch : Branch) (b : IsBranch
 -- the branch that is made is one
 child_made : (n most a : ℕ) (es : List Attributes) (branch child : Branch) (c : ℕ) (free : Attributes) → IsChild branch c free child
     → IsBranchWith n most a es (union (attributes branch.set) (only c)) free child.left (schemes_of (filter (has_column c) branch.held.items))
-        (schemes_of (filter (has_column c) branch.once.items ++ filter (lacks_column c) branch.held.items))
+    (schemes_of (filter (has_column c) branch.once.items ++ filter (lacks_column c) branch.held.items))
     → IsBranch n most a es child
 child_made n most a es branch child c free is made =
     subst (λ (set : Attributes). IsBranchWith n most a es set (attributes child.free) child.left (schemes_of child.held.items) (schemes_of child.once.items)) (sym is.set)
@@ -403,10 +404,16 @@ module _ (n most a : ℕ) (es : List Attributes) (branch : Branch) (b : IsBranch
   -- each candidate above has one of the columns
   outside : (x : Attributes) → IsAbove n most a es x branch → (k : ℕ) × (k < n) × (x k ≡ true) × (attributes by k ≡ false) × (attributes branch.free k ≡ true)
   outside x is = elim (tell_subset n x (attributes by) is.candidate.within) [
-    | inl (k, low, m, lacks) ↦ (k, low, m, lacks, elim (or_cases (attributes branch.set k) (attributes branch.free k) (is.to k m)) [
-      | inl in_set ↦ absurd (true≢false (sym ((b.holding.each (attributes by) by_at).1 k in_set) ∙ lacks))
-      | inr is_free ↦ is_free
-    ])
+    | inl (k, low, m, lacks) ↦ (
+      k,
+      low,
+      m,
+      lacks,
+      elim (or_cases (attributes branch.set k) (attributes branch.free k) (is.to k m)) [
+        | inl in_set ↦ absurd (true≢false (sym ((b.holding.each (attributes by) by_at).1 k in_set) ∙ lacks))
+        | inr is_free ↦ is_free
+      ],
+    )
     | inr inside ↦
         let listed = (b.holding.each (attributes by) by_at).0 in
         absurd (is.candidate.minimal.stands (attributes by) listed (b.without (attributes by) listed) inside)

@@ -1,6 +1,6 @@
 -- What is found branch by branch, in order, and what the largest evidence tells.
-use Rattle.std.proofs.Common.{inl, inr, ◌≡◌, ◌+◌, ◌^◌, ◌<◌, ◌≤◌, ◌⊎◌, ◌==◌, ℕ, suc, Bool, true, false, List, [], ◌∷◌, ◌++◌, length, map, get_or, Option, None, Some, Result, Ok, Err, Vec, Global, Ordering, Less, Equal, Greater, is_eq, refl, sym, ap, subst, ◌∙◌, arith}
-use Rattle.std.specs.Prelude.{All, AllPairs, Any, Contains, IfOk, IfSome}
+use Rattle.std.proofs.Common.{inl, inr, ◌≡◌, ◌+◌, ◌<◌, ◌≤◌, ◌⊎◌, ◌==◌, ℕ, suc, Bool, true, false, List, [], ◌∷◌, ◌++◌, length, get_or, Option, None, Some, Result, Ok, Err, Vec, Global, Ordering, Less, refl, sym, ap, subst, ◌∙◌, arith}
+use Rattle.std.specs.Prelude.{All, AllPairs, Contains, IfOk, IfSome}
 use Rattle.std.specs.List.{dedup}
 use Rattle.std.specs.Cmp.{IsEquivalence, IsTotalOrder}
 use Rattle.std.specs.List.Sorted.{IsPermutation, IsSorted, IsStrictlySortedBy}
@@ -8,23 +8,22 @@ use Rattle.std.specs.Ordering.{eq_by_cmp, nat_cmp}
 use Rattle.std.proofs.lemmas.Bool.{cases_Bool, cases_lt, cases_order, eqb-true, true≢false}
 use Rattle.std.proofs.lemmas.Bool.Decides.{nat_tests}
 use Rattle.std.proofs.lemmas.Cmp.{nat_cmp_total, nat_eq_equiv, on_equiv, on_total}
-use Rattle.std.proofs.lemmas.List.{length-map, map-append}
+use Rattle.std.proofs.lemmas.List.{map-append}
 use Rattle.std.proofs.lemmas.List.Elements.{All-contains, All-from_recursion, Contains-append_cases, Contains-append_left, Contains-append_right}
 use Rattle.std.proofs.lemmas.List.Kept.{AllPairs-cons, Any-dedup, Contains-from_dedup, IsStrictlySortedBy-dedup}
 use Rattle.std.proofs.lemmas.List.Sorted.{Contains-permutation, IsPermutation-sym}
-use Rattle.attr_sets.specs.Attributes.{Attributes, IsBefore, IsSubset, below, count_below, difference, none, only, union}
+use Rattle.attr_sets.specs.Attributes.{Attributes, IsBefore, below, difference, none, only}
 use Rattle.attr_sets.specs.Sets.{attributes}
 use Rattle.attr_sets.specs.declared.set.AttrSet.{AttrSet}
-use Rattle.attr_sets.specs.declared.set.TheConstants.{MOST_ATTRIBUTES}
 use Rattle.attr_sets.proofs.AttributesLemmas.{attributes-at_number, count_below-none, same_at, same_from_within}
 use Rattle.attr_sets.proofs.OrderLemmas.{before_from_lt}
 use Rattle.dep_model.specs.Plans.{schemes_of}
 use Rattle.dep_model.proofs.ListLemmas.{All-members, Contains-cases, Contains-head, Contains-map, Contains-nil, map-member, same_default}
 use Rattle.dep_model.proofs.PairLemmas.{no_pairs, pairs_map}
-use Rattle.candidate_sets.specs.Standing.{AreCandidates, IsCandidate, IsMinimalStanding, Stands}
+use Rattle.candidate_sets.specs.Standing.{AreCandidates, IsCandidate, Stands}
 use Rattle.candidate_branches.specs.declared.branch.Branch.{Branch}
-use Rattle.candidate_branches.specs.Branches.{HasNumber, LacksAlone, AreHolding, AreLackingOne, IsBranchWith, IsBranch, IsAboveSet, IsAbove, AreAbove, AddsAbove, AreAllAbove}
-use Rattle.candidate_branches.specs.Largest.{AreLargest, IsHeldBy}
+use Rattle.candidate_branches.specs.Branches.{HasNumber, AreHolding, AreLackingOne, IsBranch, IsAbove, AreAbove, AddsAbove, AreAllAbove}
+use Rattle.candidate_branches.specs.Largest.{AreLargest}
 use Rattle.candidate_branches.proofs.BranchLemmas.{or_right, outside_from, outside_to, rest_from}
 
 pub no_elements : {X : Type 0} (xs : List X) → length xs ≡ 0 → xs ≡ []

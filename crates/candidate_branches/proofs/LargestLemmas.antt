@@ -1,10 +1,10 @@
 -- The largest evidence without an attribute, one piece after the other.
-use Rattle.std.proofs.Common.{inl, inr, ◌≡◌, ◌+◌, ◌<◌, ◌≤◌, ◌⊎◌, ℕ, true, false, List, [], ◌∷◌, ◌++◌, length, get_or, refl, sym, ap, subst, ◌∙◌, arith}
+use Rattle.std.proofs.Common.{inl, inr, ◌≡◌, ◌+◌, ◌<◌, ◌≤◌, ℕ, true, false, List, [], ◌∷◌, ◌++◌, length, get_or, sym, ap, subst, ◌∙◌, arith}
 use Rattle.std.specs.Prelude.{All, Contains}
-use Rattle.std.proofs.lemmas.Bool.{cases_lt, true≢false}
+use Rattle.std.proofs.lemmas.Bool.{cases_lt}
 use Rattle.std.proofs.lemmas.List.{map-append}
 use Rattle.std.proofs.lemmas.List.Elements.{All-push, All-same, Contains-append_left, Contains-append_right, Contains-get_or, All-nil}
-use Rattle.attr_sets.specs.Attributes.{Attributes, IsSubset}
+use Rattle.attr_sets.specs.Attributes.{Attributes}
 use Rattle.attr_sets.specs.Sets.{attributes}
 use Rattle.attr_sets.specs.declared.set.AttrSet.{AttrSet}
 use Rattle.dep_model.specs.Plans.{schemes_of}
@@ -48,8 +48,7 @@ module _ (a : ℕ) (evidence : List AttrSet) (i : ℕ) (one : AttrSet) (low : i 
           (held.0, subst (λ (xs : List Attributes). Contains xs held.0) (sym (map-append attributes largest (one ∷ []))) (Contains-append_left (schemes_of largest) (attributes one ∷ []) held.0 held.1), held.2)
       | inr ge ↦
           let here : j ≡ i = omega (arith, less, ge) in
-          let is_one : get_or evidence j d ≡ one = ap (λ (p : ℕ). get_or evidence p d) here ∙ at d in
-          (
+          let is_one : get_or evidence j d ≡ one = ap (λ (p : ℕ). get_or evidence p d) here ∙ at d in (
             attributes one,
             subst (λ (xs : List Attributes). Contains xs (attributes one)) (sym (map-append attributes largest (one ∷ [])))
                 (Contains-append_right (schemes_of largest) (attributes one ∷ []) (attributes one) (Contains-head (attributes one) [])),

@@ -13,11 +13,7 @@ use dep_model::OutOfMemory;
 use std::alloc::Global;
 
 // The branches of one column more, in which each candidate above a branch is found that some evidence holds.
-pub fn branches_above(
-    alloc: Global,
-    width: u8,
-    branch: &Branch,
-) -> Result<Vec<Branch>, OutOfMemory>
+pub fn branches_above(alloc: Global, width: u8, branch: &Branch) -> Result<Vec<Branch>, OutOfMemory>
     requires width { width ≤ MOST_ATTRIBUTES }
     requires held { 0 < length branch.now.held.items }
     ensures lower { IfOk result (λ above. All (λ b. b.left < branch.now.left) above.items) }

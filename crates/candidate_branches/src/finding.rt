@@ -60,11 +60,7 @@ fn empty_branch(alloc: Global, width: u8, most: u8, right: u8, held: Vec<AttrSet
 }
 
 // The candidates above a branch, in the order of sets.
-fn all_above(
-    alloc: Global,
-    width: u8,
-    branch: &Branch,
-) -> Result<Option<Vec<AttrSet>>, OutOfMemory>
+fn all_above(alloc: Global, width: u8, branch: &Branch) -> Result<Option<Vec<AttrSet>>, OutOfMemory>
     requires width { width ≤ MOST_ATTRIBUTES }
     ensures all { (most a : ℕ) (es : List Attributes) → IsBranch width most a es branch.now
         → IfOk result (λ listed. IfSome listed (λ sets.

@@ -1,6 +1,6 @@
 -- What is left to prove of `branches_above`: its clause `above`, and that the invariant of its loop stays, by
 -- `BranchLemmas`.
-use Rattle.std.proofs.Common.{◌≡◌, ◌+◌, ◌<◌, ℕ, true, List, Vec, Global, get_or, length, refl, sym, subst, ◌∙◌, arith}
+use Rattle.std.proofs.Common.{◌≡◌, ◌+◌, ◌<◌, ℕ, true, List, Vec, Global, get_or, refl, sym, subst, ◌∙◌, arith}
 use Rattle.std.specs.Prelude.{All, Contains}
 use Rattle.std.proofs.lemmas.List.Elements.{Contains-get_or}
 use Rattle.attr_sets.specs.Attributes.{Attributes, difference}

@@ -1,5 +1,4 @@
 -- The loop of `is_held` keeps nothing.
-use Rattle.std.proofs.Common.{ℕ}
 use Rattle.candidate_branches.proofs.evidence.is_held.Given as goal
 
 abbrev pub invariant-loop-one : goal.invariant-loop-one

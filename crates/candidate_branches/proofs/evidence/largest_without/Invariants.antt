@@ -1,6 +1,4 @@
 -- What the loop of `largest_without` keeps: the largest of the evidence so far.
-use Rattle.std.proofs.Common.{take}
-use Rattle.dep_model.specs.Plans.{schemes_of}
 use Rattle.candidate_branches.proofs.LargestLemmas.{AreLargestUpTo}
 use Rattle.candidate_branches.proofs.evidence.largest_without.Given as goal
 
