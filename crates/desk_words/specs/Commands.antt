@@ -16,6 +16,7 @@ use Rattle.desk_words.specs.Forms as form
 abbrev pub schema_question : SchemaQuestion → form.SchemaQuestion
 schema_question (schema.Implies goal) = form.implies goal.now
 schema_question schema.Cover = form.cover
+schema_question schema.CoverCanonical = form.cover_canonical
 schema_question (schema.Basis set) = form.basis set.now
 schema_question (schema.Closure set) = form.closure set.now
 schema_question (schema.Project set) = form.project set.now
@@ -27,6 +28,7 @@ schema_question schema.SynthesizeFewest = form.synthesize_fewest
 schema_question (schema.Split normal) = form.split normal
 schema_question schema.SplitWide = form.split_wide
 schema_question schema.Exhibit = form.exhibit
+schema_question (schema.ExplainImplies goal) = form.explain_implies goal.now
 schema_question schema.ExplainCover = form.explain_cover
 schema_question schema.ExplainKeys = form.explain_keys
 schema_question schema.ExplainSynthesize = form.explain_synthesize
@@ -73,6 +75,7 @@ task_form (task.CheckProof file goal) = form.check_proof file.now goal.now
 task_form (task.CheckDerivation file goal) = form.check_derivation file.now goal.now
 task_form (task.CheckSame file other) = form.check_same file.now other.now
 task_form (task.CheckCover file other) = form.check_cover file.now other.now
+task_form (task.CheckCoverCanonical file other) = form.check_cover_canonical file.now other.now
 task_form (task.Rejoin files) = form.rejoin files.now
 task_form (task.Report file) = form.report file.now
 task_form (task.ReportPlan file plan) = form.report_plan file.now plan.now

@@ -5,6 +5,7 @@ ghost use Rattle.desk_words.specs.Commands.{command_form};
 ghost use Rattle.desk_words.specs.Forms as forms;
 
 use crate::command::Command;
+use crate::covers::after_check_cover;
 use crate::questions::{PlanQuestion, RowsQuestion, SchemaQuestion, Task};
 use crate::references::after_check_references;
 use crate::shapes::{is_word, over, schema_and_plan, schema_and_rows, tested_form};
@@ -113,23 +114,6 @@ fn after_check_same(words: &[Argument]) -> Option<Command<'_>>
         [schema, other] => over(
             schema,
             Task::CheckSame {
-                file: schema,
-                other,
-            },
-        ),
-        _ => None,
-    }
-}
-
-// Two schemas.
-#[tactic(auto, unfolding(crate::specs::Forms::two_schemas))]
-fn after_check_cover(words: &[Argument]) -> Option<Command<'_>>
-    ensures form { option_map command_form result ≡ forms.two_schemas forms.check_cover words.now }
-{
-    match words {
-        [schema, other] => over(
-            schema,
-            Task::CheckCover {
                 file: schema,
                 other,
             },

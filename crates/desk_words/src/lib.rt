@@ -7,6 +7,7 @@
 mod bounds;
 mod check;
 mod command;
+mod covers;
 mod explain;
 mod imports;
 mod migrate;

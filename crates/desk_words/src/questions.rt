@@ -10,6 +10,8 @@ pub enum SchemaQuestion<'a> {
     Implies { goal: &'a Argument },
     /// What says the same, shortened.
     Cover,
+    /// What says the same, shortened, with one functional dependency for each left side.
+    CoverCanonical,
     /// What a set of attributes determines, and its blocks.
     Basis { set: &'a Argument },
     /// How the closure of a set of attributes comes about.
@@ -32,6 +34,8 @@ pub enum SchemaQuestion<'a> {
     SplitWide,
     /// A relation that obeys just what it implies.
     Exhibit,
+    /// Whether it implies a goal, with a short derivation.
+    ExplainImplies { goal: &'a Argument },
     /// What says the same, shortened, and how that comes about.
     ExplainCover,
     /// All its keys, what they have in common, and what is in none of them.
@@ -163,6 +167,11 @@ pub enum Task<'a> {
     },
     /// Whether the schema of a second file is a minimal cover of it, in the first file.
     CheckCover {
+        file: &'a Argument,
+        other: &'a Argument,
+    },
+    /// Whether the schema of a second file is a canonical cover of it, in the first file.
+    CheckCoverCanonical {
         file: &'a Argument,
         other: &'a Argument,
     },
