@@ -1,6 +1,8 @@
 -- A command of the code, as its form: for `parse`. `Desk` does not cite it.
 use Rattle.desk_words.specs.declared.command.Command.{Command}
 use Rattle.desk_words.specs.declared.command.Command.TheVariants.{OverSchema, Discover, ImportCsv, ImportSql, Sample, Help, Version, DiscoverAll, DiscoverReferences, CheckReferences}
+use Rattle.desk_words.specs.declared.questions.PairQuestion.{PairQuestion}
+use Rattle.desk_words.specs.declared.questions.PairQuestion.TheVariants as pair
 use Rattle.desk_words.specs.declared.questions.PlanQuestion.{PlanQuestion}
 use Rattle.desk_words.specs.declared.questions.PlanQuestion.TheVariants as plan
 use Rattle.desk_words.specs.declared.questions.RowsQuestion.{RowsQuestion}
@@ -50,6 +52,11 @@ plan_question plan.Ddl = form.ddl_plan
 plan_question (plan.SqlMigrate name) = form.sql_migrate_plan name.now
 plan_question plan.Draw = form.draw_plan
 
+abbrev pub pair_question : PairQuestion → form.PairQuestion
+pair_question pair.CheckSame = form.check_same
+pair_question pair.CheckCover = form.check_cover
+pair_question pair.CheckCoverCanonical = form.check_cover_canonical
+
 abbrev pub rows_question : RowsQuestion → form.RowsQuestion
 rows_question rows.CheckRows = form.check_rows
 rows_question rows.Offences = form.offences
@@ -73,9 +80,7 @@ task_form (task.MigrateInto file normal folder) = form.migrate_into file.now nor
 task_form (task.MigratePlanInto plan file folder) = form.migrate_plan_into plan.now file.now folder.now
 task_form (task.CheckProof file goal) = form.check_proof file.now goal.now
 task_form (task.CheckDerivation file goal) = form.check_derivation file.now goal.now
-task_form (task.CheckSame file other) = form.check_same file.now other.now
-task_form (task.CheckCover file other) = form.check_cover file.now other.now
-task_form (task.CheckCoverCanonical file other) = form.check_cover_canonical file.now other.now
+task_form (task.OfPair file other question) = form.of_pair file.now other.now (pair_question question)
 task_form (task.Rejoin files) = form.rejoin files.now
 task_form (task.Report file) = form.report file.now
 task_form (task.ReportPlan file plan) = form.report_plan file.now plan.now

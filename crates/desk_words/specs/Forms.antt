@@ -85,6 +85,15 @@ pub data PlanQuestion : Type 0 where
   -- a picture of its tables
   draw_plan : PlanQuestion
 
+-- what is asked of a schema and another
+pub data PairQuestion : Type 0 where
+  -- whether the two say the same
+  check_same : PairQuestion
+  -- whether the other is a minimal cover of it
+  check_cover : PairQuestion
+  -- whether the other is a canonical cover of it
+  check_cover_canonical : PairQuestion
+
 -- what is asked of a schema and rows
 pub data RowsQuestion : Type 0 where
   -- whether they are legal
@@ -129,12 +138,8 @@ pub data Task : Type 0 where
   check_proof : List ℕ → List ℕ → Task
   -- whether the derivation of a file ends with a goal
   check_derivation : List ℕ → List ℕ → Task
-  -- whether it, in the first file, says the same as the schema of a second file
-  check_same : List ℕ → List ℕ → Task
-  -- whether the schema of a second file is a minimal cover of it, in the first file
-  check_cover : List ℕ → List ℕ → Task
-  -- whether the schema of a second file is a canonical cover of it, in the first file
-  check_cover_canonical : List ℕ → List ℕ → Task
+  -- a question to it, in the first file, and the schema of a second file
+  of_pair : List ℕ → List ℕ → PairQuestion → Task
   -- the natural join of the tables of files
   rejoin : List (List ℕ) → Task
   -- a page of what is said of it, in the first file
@@ -203,9 +208,9 @@ schema_and_two task (schema ∷ first ∷ second ∷ []) = Some (over_schema sch
 schema_and_two task _ = None
 
 -- two schemas
-unfoldable pub two_schemas : (List ℕ → List ℕ → Task) → List (List ℕ) → Option CommandForm
-two_schemas task (schema ∷ other ∷ []) = Some (over_schema schema (task schema other))
-two_schemas task _ = None
+unfoldable pub two_schemas : PairQuestion → List (List ℕ) → Option CommandForm
+two_schemas question (schema ∷ other ∷ []) = Some (over_schema schema (of_pair schema other question))
+two_schemas question _ = None
 
 -- from one word to the most files
 abbrev pub are_one_to_64 : List (List ℕ) → Bool
@@ -265,11 +270,12 @@ after_check_form (what ∷ rest) =
 -- after `check cover`, a word and two schemas
 abbrev pub check_cover_after_word : List ℕ → List ℕ → List ℕ → Option CommandForm
 check_cover_after_word what schema other =
-    if bytes_eq what (codes "canonical") then Some (over_schema schema (check_cover_canonical schema other)) else None
+    if bytes_eq what (codes "canonical") then Some (over_schema schema (of_pair schema other check_cover_canonical))
+    else None
 
 -- after `check cover`
 unfoldable pub after_check_cover : List (List ℕ) → Option CommandForm
-after_check_cover (schema ∷ other ∷ []) = Some (over_schema schema (check_cover schema other))
+after_check_cover (schema ∷ other ∷ []) = Some (over_schema schema (of_pair schema other check_cover))
 after_check_cover (what ∷ schema ∷ other ∷ []) = check_cover_after_word what schema other
 after_check_cover _ = None
 

@@ -5,7 +5,7 @@ ghost use Rattle.desk_words.specs.Commands.{command_form};
 ghost use Rattle.desk_words.specs.Forms as forms;
 
 use crate::command::Command;
-use crate::questions::{SchemaQuestion, Task};
+use crate::questions::{PairQuestion, SchemaQuestion, Task};
 use crate::shapes::{is_word, over};
 use arguments::Argument;
 
@@ -49,9 +49,10 @@ pub fn after_check_cover(words: &[Argument]) -> Option<Command<'_>>
     match words {
         [schema, other] => over(
             schema,
-            Task::CheckCover {
+            Task::OfPair {
                 file: schema,
                 other,
+                question: PairQuestion::CheckCover,
             },
         ),
         [what, schema, other] => after_check_cover_canonical(what, schema, other),
@@ -73,9 +74,10 @@ fn after_check_cover_canonical<'a>(
     }
     over(
         schema,
-        Task::CheckCoverCanonical {
+        Task::OfPair {
             file: schema,
             other,
+            question: PairQuestion::CheckCoverCanonical,
         },
     )
 }

@@ -24,4 +24,6 @@ mod tables;
 
 pub use bounds::{LeftBound, MOST_ON_LEFT};
 pub use command::{Command, MOST_FILES, parse};
-pub use questions::{PlanQuestion, RowsQuestion, RulesQuestion, SchemaQuestion, Task};
+pub use questions::{
+    PairQuestion, PlanQuestion, RowsQuestion, RulesQuestion, SchemaQuestion, Task,
+};

@@ -79,6 +79,17 @@ pub enum PlanQuestion<'a> {
     Draw,
 }
 
+/// What is asked of a schema and another.
+#[derive(Clone, Copy, Debug)]
+pub enum PairQuestion {
+    /// Whether the two say the same.
+    CheckSame,
+    /// Whether the other is a minimal cover of it.
+    CheckCover,
+    /// Whether the other is a canonical cover of it.
+    CheckCoverCanonical,
+}
+
 /// What is asked of a schema and rows.
 #[derive(Clone, Copy, Debug)]
 pub enum RowsQuestion {
@@ -160,20 +171,11 @@ pub enum Task<'a> {
         file: &'a Argument,
         goal: &'a Argument,
     },
-    /// Whether it, in the first file, says the same as the schema of a second file.
-    CheckSame {
+    /// A question to it, in the first file, and the schema of a second file.
+    OfPair {
         file: &'a Argument,
         other: &'a Argument,
-    },
-    /// Whether the schema of a second file is a minimal cover of it, in the first file.
-    CheckCover {
-        file: &'a Argument,
-        other: &'a Argument,
-    },
-    /// Whether the schema of a second file is a canonical cover of it, in the first file.
-    CheckCoverCanonical {
-        file: &'a Argument,
-        other: &'a Argument,
+        question: PairQuestion,
     },
     /// The natural join of the tables of files.
     Rejoin {
