@@ -3,6 +3,7 @@ pub mod KeyLemmas
 pub mod SetLemmas
 pub mod AgreeLemmas
 pub mod AddLemmas
+pub mod FollowLemmas
 pub mod TargetLemmas
 pub mod KnowsLemmas
 pub mod ShareLemmas

@@ -27,6 +27,18 @@ pub record Adds (files : List HeadedRows) (P : Reference → Type 0) (old new : 
   pub only : (ref : Reference) → Contains new ref → Contains old ref ⊎ IsReference files ref
   pub all : (ref : Reference) → IsReference files ref → P ref → Contains new ref
 
+-- each of these is a reference
+abbrev pub AreReferences : List HeadedRows → List Reference → Type 0
+AreReferences files refs = (ref : Reference) → Contains refs ref → IsReference files ref
+
+-- a reference follows from two of these: its source refers to columns that refer to its target (Casanova, Fagin and
+-- Papadimitriou 1984)
+abbrev pub Follows : List Reference → Reference → Type 0
+Follows refs ref =
+    (file : ℕ) × ((columns : List ℕ)
+    × Contains refs (record { file = ref.file; columns = ref.columns; target = file; key = columns })
+    × Contains refs (record { file = file; columns = columns; target = ref.target; key = ref.key }))
+
 -- the target of the code is one of the files, with its values
 pub record IsTargetOf (files : List HeadedRows) (target : Target) : Type 0 where
   pub within : target.file < length files

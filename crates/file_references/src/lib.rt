@@ -9,6 +9,7 @@
 
 mod column_sets;
 mod finding;
+mod following;
 mod identifying;
 mod matching;
 mod reference;

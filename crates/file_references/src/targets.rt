@@ -6,6 +6,7 @@ ghost use Rattle.attr_sets.specs.Sets.{attributes};
 ghost use Rattle.dep_model.specs.Tuples.{IsOver};
 ghost use Rattle.file_references.specs.Columns.{file_at, name_at};
 ghost use Rattle.file_references.specs.Finds.{Adds, AreLookedIn, IsLookedIn, IsTo, KnowsTargets, reference_of};
+ghost use Rattle.file_references.specs.Finds.{AreReferences};
 ghost use Rattle.file_references.specs.References.{HasTwoRows, Reference};
 ghost use Rattle.file_references.specs.declared.reference.TheConstants.{MOST_KEY_COLUMNS};
 ghost use Rattle.headed_rows.specs.Headers.{IsColumnHeader};
@@ -45,7 +46,8 @@ pub fn add_references_to(
     requires target { target < length files.now }
     requires header { All (λ h. IsColumnHeader h.names.items) files.now }
     requires same_width { All (λ h. IsOver (length h.names.items) h.rows) files.now }
-    ensures added { OnOk result (Adds (map headed_of files.now) (IsTo target)
+    ensures added { AreReferences (map headed_of files.now) (map reference_of found.old.items)
+        → OnOk result (Adds (map headed_of files.now) (IsTo target)
         (map reference_of found.old.items) (map reference_of found.new.items)) }
 {
     if !have_two(&files[target].rows) {
@@ -129,6 +131,7 @@ fn add_targets(
     requires two { HasTwoRows (file_at (map headed_of files.now) target).rows }
     ensures knows { (shared : Attributes) (size : ℕ) (first : List Reference) → size < MOST_KEY_COLUMNS
         → AreLookedIn (map headed_of files.now) target shared (size + 1) sets.now
+        → AreReferences (map headed_of files.now) first
         → KnowsTargets (map headed_of files.now) target shared size [] first keys.old.items
         (map reference_of found.old.items)
         → OnOk result (KnowsTargets (map headed_of files.now) target shared (size + 1) [] first keys.new.items
@@ -156,6 +159,7 @@ fn add_target(
     requires two { HasTwoRows (file_at (map headed_of files.now) target).rows }
     ensures knows { (shared : Attributes) (size : ℕ) (sets : List AttrSet) (first : List Reference)
         → size < MOST_KEY_COLUMNS → IsLookedIn (map headed_of files.now) target shared (size + 1) set
+        → AreReferences (map headed_of files.now) first
         → KnowsTargets (map headed_of files.now) target shared size sets first keys.old.items
         (map reference_of found.old.items)
         → OnOk result (KnowsTargets (map headed_of files.now) target shared size (sets ++ set ∷ []) first keys.new.items
