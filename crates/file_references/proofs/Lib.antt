@@ -4,6 +4,7 @@ pub mod SetLemmas
 pub mod AgreeLemmas
 pub mod AddLemmas
 pub mod FollowLemmas
+pub mod PromisingLemmas
 pub mod TargetLemmas
 pub mod KnowsLemmas
 pub mod ShareLemmas

@@ -12,6 +12,7 @@ mod finding;
 mod following;
 mod identifying;
 mod matching;
+mod promising;
 mod reference;
 mod sources;
 mod targets;

@@ -15,6 +15,7 @@ ghost use Rattle.schema_model.specs.Schemas.{attribute_named};
 
 use crate::column_sets::{columns_of, has_within, sets_of_one, sets_of_one_more};
 use crate::identifying::key_values;
+use crate::promising::promising_columns;
 use crate::reference::FoundReference;
 use crate::sources::add_sources;
 use crate::values::{Values, are_same};
@@ -34,8 +35,8 @@ pub struct Target<'a> {
     pub values: IndexSet<Values<'a>, Hashing>,
 }
 
-// Adds the references to keys of one file. A key of several columns is looked for among those alone that
-// another file has too.
+// Adds the references to keys of one file. A key of several columns is looked for among those alone to which
+// columns of the same names in another file may refer.
 pub fn add_references_to(
     alloc: Global,
     hashing: Hashing,
@@ -54,10 +55,11 @@ pub fn add_references_to(
         return Ok(());
     }
     let width = files[target].names.len() as u8;
-    let shared = shared_columns(files, target);
     let mut keys = Vec::new(alloc);
     let columns = sets_of_one(alloc, AttrSet::full(width))?;
     add_targets(alloc, hashing, files, target, &columns, &mut keys, found)?;
+    let named = shared_columns(files, target);
+    let shared = promising_columns(alloc, hashing, files, target, named, &keys)?;
     let pairs = sets_of_one_more(alloc, shared, &sets_of_one(alloc, shared)?)?;
     add_targets(alloc, hashing, files, target, &pairs, &mut keys, found)?;
     let triples = sets_of_one_more(alloc, shared, &pairs)?;
