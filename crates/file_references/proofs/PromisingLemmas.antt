@@ -116,7 +116,7 @@ module _ (files : List HeadedRows) (target column : ℕ) where
       → name_at (file_at files target).names column ≡ name → HasColumn r column values
       → ((x : ℕ) → attribute_named names name ≡ Some x → AreAmong rows x values → among ≡ true) → among ≡ false
       → NoneMay i → NoneMay (i + 1)
-  none_more i names rows r name values among names_are rows_are target_is name_is has test no before file x low other named may =
+  none_more i names rows r name values among names_are rows_are target_is name_is has test fails before file x low other named may =
       elim (cases_lt file i) [
         | inl less ↦ before file x less other named may
         | inr more ↦
@@ -128,5 +128,5 @@ module _ (files : List HeadedRows) (target column : ℕ) where
             (subst (λ (s : Relation). MayRefer s x (file_at files target).rows column)
             (ap (λ (f : ℕ). (file_at files f).rows) last ∙ rows_are) may) in
             true≢false (sym (test x here (λ t t_in whole.
-            let (u, u_in, same) = may_here t t_in whole in subst (Contains values) same (has u u_in))) ∙ no)
+            let (u, u_in, same) = may_here t t_in whole in subst (Contains values) same (has u u_in))) ∙ fails)
       ]
