@@ -88,8 +88,7 @@ may_refer n r columns s key i over low size inside includes t t_in whole =
     let none : misses_none columns t ≡ true = whole_from columns t (λ k has.
     let within : k < n = All-contains (λ (j : ℕ). j < n) columns k low has in
     nothing_missed t k (omega (arith, within, long)) whole) in
-    let (u, u_in, same) = includes t t_in none in
-    (
+    let (u, u_in, same) = includes t t_in none in (
       u,
       u_in,
       sym (get_or-map (value_at u) key i 0 [] inside)

@@ -12,6 +12,7 @@ ghost use Rattle.row_store.specs.Rows.{row_at};
 ghost use Rattle.schema_model.specs.Schemas.{attribute_named};
 ghost use Rattle.table_join.specs.Lent.{lent_values};
 
+use crate::values::MOST_FIRST_ROWS;
 use attr_sets::AttrSet;
 use dep_model::OutOfMemory;
 use headed_rows::Headed;
@@ -22,9 +23,6 @@ use tokens::position_among;
 
 // Fewer columns have so few sets that to look into the columns takes longer than into the sets.
 const FEWEST_OPEN: u8 = 4;
-
-// How many rows of another file are looked at: nearly all columns that do not refer show it in as many.
-const MOST_FIRST_ROWS: usize = 100;
 
 // Of the columns of a file whose names another one has too, those to which columns of these names may refer.
 // The others are in no key of several columns that is referred to. Columns that are keys alone stay.

@@ -1,6 +1,6 @@
 //! The sources that refer to a target.
 
-ghost use Rattle.std.specs.Prelude.{◌≡◌, ◌↔◌, ◌<◌, ℕ, List, length, map, All, IfOk, IsTrue, MatchOption, OnOk};
+ghost use Rattle.std.specs.Prelude.{◌≡◌, ◌↔◌, ◌<◌, ℕ, true, List, length, map, All, IfOk, IsTrue, MatchOption, OnOk};
 ghost use Rattle.dep_model.specs.Tuples.{IsOver};
 ghost use Rattle.file_references.specs.Columns.{file_at};
 ghost use Rattle.file_references.specs.Finds.{Adds, AllAre, AreNamedAs, AreReferences, FitsFile, IsTargetOf, IsThis};
@@ -13,7 +13,7 @@ ghost use Rattle.table_join.specs.Lent.{tuples_of};
 use crate::following::follows;
 use crate::reference::FoundReference;
 use crate::targets::Target;
-use crate::values::{Values, are_there, has_values, take_on};
+use crate::values::{MOST_FIRST_ROWS, Values, are_there, has_values, take_on};
 use dep_model::OutOfMemory;
 use headed_rows::Headed;
 use indexmap::IndexSet;
@@ -133,8 +133,8 @@ fn add_source(
     Ok(())
 }
 
-// Whether columns of a file refer to a target. Where that follows from what was found, no row is looked up; what was
-// found is not searched where it is more than the rows.
+// Whether columns of a file refer to a target. Where that follows from what was found, only the first rows are looked
+// up; what was found is not searched where it is more than the rows.
 fn refers(
     alloc: Global,
     files: &[Headed],
@@ -152,10 +152,38 @@ fn refers(
         → IfOk result (λ refers. IsTrue refers ↔ IsReference (map headed_of files.now) (refers_from file columns.now target.now)) }
 {
     let rows = &files[file].rows;
+    if !are_first_among(alloc, rows, columns, &target.values)? {
+        return Ok(false);
+    }
     if found.len() <= rows.len() && follows(found, file, columns, target) {
         return Ok(true);
     }
     all_are(alloc, rows, columns, &target.values)
+}
+
+// Whether the first rows that miss none of their values at columns have them among these.
+fn are_first_among(
+    alloc: Global,
+    rows: &Rows,
+    columns: &[usize],
+    values: &IndexSet<Values, Hashing>,
+) -> Result<bool, OutOfMemory>
+    requires columns { All (λ t. All (λ k. k < length t) columns.now) rows.now }
+    ensures first { AllAre rows.now columns.now (tuples_of values.now.keys) → IfOk result (λ are. are ≡ true) }
+{
+    let mut read = Vec::new(alloc);
+    for row in 0..rows.len() {
+        if row == MOST_FIRST_ROWS {
+            return Ok(true);
+        }
+        take_on(&mut read, rows, row, columns)?;
+        if are_there(&read) {
+            if !has_values(values, &read) {
+                return Ok(false);
+            }
+        }
+    }
+    Ok(true)
 }
 
 // Whether each row that misses none of its values at columns has them among these, and some row misses none.

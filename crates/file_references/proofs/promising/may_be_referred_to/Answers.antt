@@ -6,7 +6,7 @@ use Rattle.dep_model.proofs.ListLemmas.{same_default}
 use Rattle.headed_rows.specs.Headings.{HeadedRows, headed_of}
 use Rattle.table_join.specs.Lent.{lent_values}
 use Rattle.file_references.specs.Columns.{name_at}
-use Rattle.file_references.proofs.AddLemmas.{file_at_or}
+use Rattle.file_references.proofs.AddLemmas.{file_at_or, file_here}
 use Rattle.file_references.proofs.PromisingLemmas.{none_itself, none_more}
 use Rattle.file_references.proofs.promising.may_be_referred_to.Goals as goal
 use Rattle.file_references.proofs.promising.may_be_referred_to.Goals.{else-file-target-via-then-file-target+else-are_named_among, else-file-target-via-else-file-target}
@@ -24,7 +24,7 @@ loop-file-preserved c =
     record {
       none = elim c.else-file-target.branch [
         | else-file-target-via-then-file-target+else-are_named_among w ↦
-            let one = file_at_or c.args.files.now i w.index-files-file.result c.loop-file-test.true in
+            let one = file_here c.args.files.now i w.index-files-file.result c.loop-file-test.true w.index-files-file.is in
             none_more files target column i _ _ _ c.bytes-name.result.now (lent_values c.in_ok-values.values.keys) w.are_named_among.result
             (ap (λ (h : HeadedRows). h.names) one) (ap (λ (h : HeadedRows). h.rows) one) (ap (λ (h : HeadedRows). h.rows) again)
             (ap (λ (h : HeadedRows). name_at h.names column) here

@@ -1,5 +1,5 @@
 -- What is left to prove of `refers`: its clause `refers`, by `FollowLemmas` and `SourceLemmas`.
-use Rattle.std.proofs.Common.{◌≡◌, List, map, refl, ap, sym}
+use Rattle.std.proofs.Common.{◌≡◌, true≢false, List, map, refl, ap, sym, ◌∙◌}
 use Rattle.std.proofs.lemmas.Result.{IfOk-weaker}
 use Rattle.std.specs.Prelude.{◌↔◌, Bool, IsTrue}
 use Rattle.file_references.specs.Finds.{AllAre, reference_of, refers_from}
@@ -10,6 +10,21 @@ use Rattle.file_references.proofs.SourceLemmas.{all_moved, is_reference, referen
 use Rattle.headed_rows.specs.Headings.{HeadedRows, headed_of}
 use Rattle.table_join.specs.Lent.{tuples_of}
 use Rattle.file_references.proofs.sources.refers.Goals as goal
+
+pub returns-then-not-branch : goal.returns-then-not-branch
+returns-then-not-branch c = record {
+  refers = λ are of candidate. (
+    λ never. absurd (true≢false (sym never)),
+    λ is.
+        let files = map headed_of c.args.files.now in
+        let file = c.args.file in
+        let columns = c.args.columns.now in
+        let target = c.args.target.now in
+        let rows = ap (λ (h : HeadedRows). h.rows) (file_at_or c.args.files.now file c.index-files-file.result c.requires.file) in
+        absurd (true≢false (sym (c.in_ok-are_first_among.ensures.first (all_moved _ _ columns columns (tuples_of target.values.keys) rows refl
+        (reference_is files file columns target of is))) ∙ c.if-not-branch.true)),
+  );
+}
 
 pub returns-then-follows : goal.returns-then-follows
 returns-then-follows c = record {
