@@ -5,7 +5,7 @@ use Rattle.std.proofs.Math.ListN.{set}
 use Rattle.std.proofs.lemmas.List.{take_more, drop_more, map-append, set_at, length-map, length-take-le, get_or_at, take_all, drop_all}
 use Rattle.chase_laws.specs.Tableaux.{SymbolRow, Tableau}
 use Rattle.chase_laws.specs.Steps.{replace_in_row}
-use Rattle.tableau_chase.proofs.functional_closing.replace.Goals as goal
+use Rattle.tableau_chase.proofs.equating.replace.Goals as goal
 
 -- the rows up to i are replaced, and then row i
 more : (f : SymbolRow → SymbolRow) (start rows : Tableau) (i : ℕ) (old new : SymbolRow) → i < length start → rows ≡ map f (take i start) ++ drop i start → old ≡ get_or rows i old → new ≡ f old

@@ -9,8 +9,8 @@ use Rattle.chase_laws.specs.Tableaux.{Tableau, IsTableauOver}
 use Rattle.tableau_chase.specs.Equating.{KeepsRows, IsEquatedAt}
 use Rattle.tableau_chase.proofs.RowLemmas.{members-low, members-member}
 use Rattle.tableau_chase.proofs.EquatingLemmas.{AreEquatedUpTo, equated_none, equated_more, equated_same, equated_all}
-use Rattle.tableau_chase.proofs.functional_closing.equate.Goals as goal
-use Rattle.tableau_chase.proofs.functional_closing.equate.Goals.{then-equate_at, else-equate_at}
+use Rattle.tableau_chase.proofs.equating.equate.Goals as goal
+use Rattle.tableau_chase.proofs.equating.equate.Goals.{then-equate_at, else-equate_at}
 
 -- an attribute of the list lies within the rows
 within : (n k : ℕ) (y : Attributes) (listed : List ℕ) (t s : Tableau) → IsTableauOver n t → KeepsRows t s → listed ≡ members_below n y → k < length listed → All (λ row. get_or listed k 0 < length row) s
