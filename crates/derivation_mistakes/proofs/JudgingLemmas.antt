@@ -1,14 +1,14 @@
 -- Judging the lines of a derivation one after another: what the loop of `mistaken_lines` keeps.
-use Rattle.std.proofs.Common.{◌≡◌, ◌<◌, ◌≤◌, ◌+◌, ℕ, zero, suc, List, [], ◌∷◌, ◌++◌, length, take, get_or, refl, sym, ◌∙◌, ap, subst, arith}
+use Rattle.std.proofs.Common.{◌≡◌, ◌<◌, ◌≤◌, ◌+◌, ◌-◌, ℕ, zero, suc, List, [], ◌∷◌, ◌++◌, length, take, get_or, refl, sym, ◌∙◌, ap, subst, arith}
 use Rattle.std.specs.Prelude.{All, map}
-use Rattle.std.proofs.lemmas.List.{get_or-map, length-map, length-take-le, map-append, take-map, take_more}
+use Rattle.std.proofs.lemmas.List.{get_or-map, length-map, length-take-le, map-append, take-map, take_all, take_more}
 use Rattle.std.proofs.lemmas.List.Elements.{All-map, All-take}
 use Rattle.schema_model.specs.Schemas.{Schema, naming_of, universe_of}
 use Rattle.dep_model.specs.declared.dep.Dep.{Dep}
 use Rattle.dep_model.specs.Dependencies.{Dependency, IsWithin}
 use Rattle.dep_model.specs.Deps.{dependency_of, dependencies_of}
 use Rattle.proof_grammar.specs.Meanings.{certificate_lines}
-use Rattle.derivation_grammar.specs.Derivations.{stated_by}
+use Rattle.derivation_grammar.specs.Derivations.{stated_by, LastStates}
 use Rattle.derivation_grammar.specs.Lines.{DerivationLine}
 use Rattle.derivation_grammar.specs.Meanings.{premises_of, IsEarlier, IsInTurn, AreInTurn, IsDerivation}
 use Rattle.derivation_grammar.proofs.DerivedLines.{stated_push, stated_size}
@@ -17,14 +17,14 @@ use Rattle.derivation_text.specs.declared.line.DerivationLine as lines
 use Rattle.derivation_text.specs.Views.{derivation_line_of, derivation_lines_of}
 use Rattle.derivation_mistakes.specs.declared.mistake.MistakenLine as code
 use Rattle.derivation_mistakes.specs.Mistakes.{AreMistakenLines}
-use Rattle.derivation_mistakes.specs.Views.{mistaken_lines_of, IsMistakenLineWithin}
+use Rattle.derivation_mistakes.specs.Views.{mistaken_lines_of, IsMistakenLineOf}
 
 -- so many lines are judged
 pub record HasJudged (s : Schema) (all : List lines.DerivationLine) (k : ℕ) (before : List Dep) (found : List code.MistakenLine)
     : Type 0 where
   pub judged : AreMistakenLines s [] (derivation_lines_of (take k all)) (mistaken_lines_of found)
   pub stated : dependencies_of before ≡ stated_by (derivation_lines_of (take k all))
-  pub within : All (IsMistakenLineWithin s) found
+  pub of_schema : All (IsMistakenLineOf s) found
 
 -- ---- the lines before
 of_schema : (s : Schema) (all : List lines.DerivationLine) → IsDerivation s (derivation_lines_of all)
@@ -87,8 +87,8 @@ one_longer all k d low =
 pub one_judged : (s : Schema) (all : List lines.DerivationLine) (k : ℕ) (d : lines.DerivationLine) (before next : List Dep)
     (found more : List code.MistakenLine) → k < length all → HasJudged s all k before found
     → AreMistakenLines s [] (derivation_lines_of (take k all) ++ derivation_line_of (get_or all k d) ∷ []) (mistaken_lines_of more)
-    → All (IsMistakenLineWithin s) more → next ≡ before ++ (get_or all k d).stated ∷ [] → HasJudged s all (k + 1) next more
-one_judged s all k d before next found more low so_far judged within grown =
+    → All (IsMistakenLineOf s) more → next ≡ before ++ (get_or all k d).stated ∷ [] → HasJudged s all (k + 1) next more
+one_judged s all k d before next found more low so_far judged are_of grown =
     let longer = one_longer all k d low in
     record {
       judged = subst (λ (ls : List DerivationLine). AreMistakenLines s [] ls (mistaken_lines_of more)) (sym longer) judged;
@@ -96,5 +96,19 @@ one_judged s all k d before next found more low so_far judged within grown =
           ∙ ap (λ (ds : List Dependency). ds ++ dependency_of (get_or all k d).stated ∷ []) so_far.stated
           ∙ sym (stated_push (derivation_lines_of (take k all)) (derivation_line_of (get_or all k d)))
           ∙ ap stated_by (sym longer);
-      within = within;
+      of_schema = are_of;
+    }
+
+-- what the last line states
+pub last_line : (all : List lines.DerivationLine) (d : lines.DerivationLine) → 0 < length all
+    → LastStates (derivation_lines_of all) (dependency_of (get_or all (length all - 1) d).stated)
+last_line all d some =
+    let k = length all - 1 in
+    let low : k < length all = omega (arith, some) in
+    let whole : take (k + 1) all ≡ all = take_all (k + 1) all (omega (arith, some)) in
+    record {
+      before = derivation_lines_of (take k all);
+      last = derivation_line_of (get_or all k d);
+      whole = sym (ap derivation_lines_of whole) ∙ one_longer all k d low;
+      states = refl;
     }

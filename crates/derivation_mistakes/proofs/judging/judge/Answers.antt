@@ -7,7 +7,7 @@ use Rattle.dep_model.specs.Dependencies.{Dependency}
 use Rattle.derivation_text.specs.Views.{derivation_line_of}
 use Rattle.derivation_mistakes.specs.declared.mistake.MistakenLine as code
 use Rattle.derivation_mistakes.specs.Mistakes.{IsRight, IsMistakenLine, MistakenLine, AreMistakenLines}
-use Rattle.derivation_mistakes.specs.Views.{mistaken_line_of, mistaken_lines_of, IsMistakenLineWithin}
+use Rattle.derivation_mistakes.specs.Views.{mistaken_line_of, mistaken_lines_of, IsMistakenLineOf}
 use Rattle.derivation_mistakes.proofs.MistakenLines.{right_more, mistaken_more}
 use Rattle.derivation_mistakes.proofs.judging.judge.Goals as goal
 
@@ -32,8 +32,8 @@ returns-in_ok-push-in-Some-clause-judged c = λ lines same are.
     (sym (map-append mistaken_line_of old (mistaken ∷ [])))
     (mistaken_more s [] lines (mistaken_lines_of old) line (mistaken_line_of mistaken) are is))
 
-pub returns-in_ok-push-in-Some-clause-within : goal.returns-in_ok-push-in-Some-clause-within
-returns-in_ok-push-in-Some-clause-within c = λ all.
-    let P = IsMistakenLineWithin c.args.schema.now in
+pub returns-in_ok-push-in-Some-clause-found : goal.returns-in_ok-push-in-Some-clause-found
+returns-in_ok-push-in-Some-clause-found c =
+    let P = IsMistakenLineOf c.args.schema.now in
     subst (All P) (sym c.in_ok-push-in-Some.ensures.items)
-    (All-push P c.args.found.now.items c.in-Some.mistaken all c.in-Some.ensures.within)
+    (All-push P c.args.found.now.items c.in-Some.mistaken c.requires.found c.in-Some.ensures.of_schema)

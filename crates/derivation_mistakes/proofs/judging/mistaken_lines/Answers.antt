@@ -26,11 +26,14 @@ judge-requires-clause-earlier c =
     (next_earlier c.args.schema.now c.args.lines.now c.loop-line.line-index _ _ _ c.requires.derivation
     c.loop-line-test.true c.loop-line.invariant)
 
+pub judge-requires-clause-found : goal.judge-requires-clause-found
+judge-requires-clause-found c = c.loop-line.invariant.of_schema
+
 pub loop-line-preserved : goal.loop-line-preserved
 loop-line-preserved c =
     let so_far = c.loop-line.invariant in
     let same = subst (λ (items : List Dep). dependencies_of items ≡ _) (sym c.deref.ensures.value) so_far.stated in
     one_judged c.args.schema.now c.args.lines.now c.loop-line.line-index _ c.loop-line.before.items c.push.new.self.items
     c.loop-line.found.items c.judge.new.found.items c.loop-line-test.true so_far
-    (c.in_ok-judge.ensures.judged _ same so_far.judged) (c.in_ok-judge.ensures.within so_far.within)
+    (c.in_ok-judge.ensures.judged _ same so_far.judged) c.in_ok-judge.ensures.found
     c.in_ok-push.ensures.items

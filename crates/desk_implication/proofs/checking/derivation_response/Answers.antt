@@ -6,7 +6,7 @@ use Rattle.dep_model.specs.Deps.{dependency_of}
 use Rattle.derivation_text.specs.Views.{derivation_line_of, derivation_lines_of}
 use Rattle.derivation_mistakes.specs.declared.mistake.MistakenLine.{MistakenLine}
 use Rattle.derivation_mistakes.specs.Mistakes as mistakes
-use Rattle.derivation_mistakes.specs.Views.{mistaken_lines_of, IsMistakenLineWithin}
+use Rattle.derivation_mistakes.specs.Views.{mistaken_lines_of, IsMistakenLineOf}
 use Rattle.derivation_mistakes.proofs.MistakenLines.{last_within, last_is_implied}
 use Rattle.desk_implication.proofs.checking.derivation_response.Goals as goal
 
@@ -17,7 +17,7 @@ last_stated-concluded-requires c = record {
 
 pub judged_response-requires-clause-found : goal.judged_response-requires-clause-found
 judged_response-requires-clause-found c =
-    subst (All (IsMistakenLineWithin c.args.schema.now)) (sym c.deref.ensures.value) c.in_ok-mistaken_lines.ensures.within
+    subst (All (IsMistakenLineOf c.args.schema.now)) (sym c.deref.ensures.value) c.in_ok-mistaken_lines.ensures.of_schema
 
 pub judged_response-requires-clause-concluded : goal.judged_response-requires-clause-concluded
 judged_response-requires-clause-concluded c =
