@@ -12,6 +12,7 @@ mod checking;
 mod closures;
 mod conclusions;
 mod implication;
+mod mistakes;
 mod projecting;
 
 pub use bases::give_basis;
