@@ -33,14 +33,14 @@ pub remove_all : (P : Dep → Type 0) (ds : List Dep) (k : ℕ) → All P ds →
 remove_all P ds k all = All-append P (take k ds) (drop (suc k) ds) (All-take P k ds all) (All-drop P (suc k) ds all)
 
 -- the list is what stands before the member, the member, and what stands after it
-parted : (ds : List Dependency) (k : ℕ) (d : Dependency) → slice_get ds k ≡ Some d → ds ≡ take k ds ++ d ∷ drop (suc k) ds
+pub parted : (ds : List Dependency) (k : ℕ) (d : Dependency) → slice_get ds k ≡ Some d → ds ≡ take k ds ++ d ∷ drop (suc k) ds
 parted ds k d read =
     sym (take-append-drop k ds)
     ∙ ap (λ (es : List Dependency). take k ds ++ es) (drop-cons ds k d (slice_get_within ds k d read))
     ∙ ap (λ (e : Dependency). take k ds ++ e ∷ drop (suc k) ds) (get_or_from_slice_get ds k d d read)
 
 -- ---- a minimal cover
-contained : (ds : List Dependency) (k : ℕ) (d : Dependency) → slice_get ds k ≡ Some d → Contains ds d
+pub contained : (ds : List Dependency) (k : ℕ) (d : Dependency) → slice_get ds k ≡ Some d → Contains ds d
 contained ds k d read =
     subst (λ (e : Dependency). Contains ds e) (get_or_from_slice_get ds k d d read) (Contains-get_or ds k d (slice_get_within ds k d read))
 

@@ -66,8 +66,7 @@ one_first ds k i j one other =
     ]
 
 pub several_not_same : (form : CoverForm) → form ≡ Minimal → form ≡ Canonical → ⊥
-several_not_same Minimal one other = cc
-several_not_same Canonical one other = cc
+several_not_same form one other = cc
 
 pub same_diagnostic : (form : CoverForm) (n : ℕ) (ds : List Dependency) (one other : CoverDiagnostic) → NamesAttribute one → NamesAttribute other
     → IsCoverDiagnostic form n ds one → IsCoverDiagnostic form n ds other → position_of one ≡ position_of other → rank_of one ≡ rank_of other → one ≡ other

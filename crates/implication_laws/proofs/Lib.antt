@@ -9,6 +9,9 @@ mod AlikeLaws
 mod CoverLaws
 mod PartedLists
 mod MinimalLaws
+mod CanonicalLaws
+mod ConfirmedLaws
+pub mod ReadBackLaws
 mod ExhibitLaws
 mod FoundLaws
 pub mod StepLaws
