@@ -11,7 +11,6 @@ mod PartedLists
 mod MinimalLaws
 mod CanonicalLaws
 mod ConfirmedLaws
-pub mod ReadBackLaws
 mod ExhibitLaws
 mod FoundLaws
 pub mod StepLaws

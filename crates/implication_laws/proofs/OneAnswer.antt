@@ -44,8 +44,7 @@ use Rattle.desk_texts.specs.Texts.{line, set_line}
 use Rattle.desk_refusals.specs.Refusals.{goal_refusal_text, set_refusal_text}
 use Rattle.desk_implication.specs.Bases.{TellsBasis, GivesBasis, blocks_text}
 use Rattle.desk_implication.specs.Certificates.{Checked, ChecksProof}
-use Rattle.canonical_cover.specs.Merging.{merge_left_sides}
-use Rattle.desk_covers.specs.Covering.{GivesCanonicalCover, GivesCover}
+use Rattle.desk_covers.specs.Covering.{GivesCover}
 use Rattle.desk_discovery.specs.Discoveries.{FindsRules, FindsSmallRules, GivesRules, GivesSmallRules, RefusesRules, found_text, left_sides_text}
 use Rattle.near_rules.specs.NearRules.{IsFirstExceeded}
 use Rattle.near_rules.specs.declared.found.TooManyTried.{TooManyTried}
@@ -143,12 +142,6 @@ pub one_cover_answer : (schema : Schema) → AllowsOne (GivesCover schema)
 one_cover_answer schema one other (whole, fixed, minimal, covers, says) (entire, also, minimal_too, covers_too, said) =
     same_says Yes _ _ one other says said
     (ap (schema_text schema) (one_whole_cover (width_of schema) (theory_of schema) whole entire fixed also))
-
-pub one_canonical_answer : (schema : Schema) → AllowsOne (GivesCanonicalCover schema)
-one_canonical_answer schema one other (cover, fixed, canonical, covers, says) (entire, also, canonical_too, covers_too, said) =
-    let whole = one_whole_cover (width_of schema) (theory_of schema) fixed.whole also.whole fixed.fixed also.fixed in
-    same_says Yes _ _ one other says said
-    (ap (schema_text schema) (fixed.once ∙ ap merge_left_sides whole ∙ sym also.once))
 
 -- ---- bases
 one_told : (schema : Schema) (x : Attributes) → AllowsOne (TellsBasis schema x)

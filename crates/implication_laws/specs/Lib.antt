@@ -1,8 +1,6 @@
 -- The definitions of implication_laws, in reading order: schemas whose dependencies are written otherwise, what
--- it is that they answer alike, when a schema is a cover, printed texts that are read back, and that one answer
--- alone is allowed.
+-- it is that they answer alike, when a schema is a cover, and that one answer alone is allowed.
 pub mod Rewriting
 pub mod Alike
 pub mod Minimality
-pub mod ReadBack
 pub mod OneAnswer

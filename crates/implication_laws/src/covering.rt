@@ -11,11 +11,9 @@ ghost use Rattle.schema_match.specs.Columns.{SameNames};
 ghost use Rattle.schema_model.specs.Schemas.{width_of, theory_of};
 ghost use Rattle.schema_model.specs.Schemas.{Schema};
 ghost use Rattle.desk_covers.specs.CoverChecks.{ChecksCanonicalCover, ChecksCover};
-ghost use Rattle.desk_covers.specs.Covering.{GivesCanonicalCover, GivesCover};
 ghost use Rattle.desk_responses.specs.ResponseValues.{ResponseValue};
 ghost use Rattle.desk_responses.specs.declared.status.Status.TheVariants.{Yes};
 ghost use Rattle.implication_laws.specs.Minimality.{IsCanonicalByKind, IsMinimalByKind};
-ghost use Rattle.implication_laws.specs.ReadBack.{PrintsCover};
 
 /// `check cover` says nothing of a line exactly where the functional dependencies are a minimal cover of
 /// themselves and no multivalued one follows from the rest. It says yes exactly where, besides, the second
@@ -46,15 +44,4 @@ pub fn canonical_covers_are_confirmed()
     ensures functional { (schema : Schema) → functional_part (theory_of schema) ≡ theory_of schema
         → IsCanonicalByKind schema
         ↔ IsCanonicalCover (width_of schema) (theory_of schema) (theory_of schema) }
-{}
-
-/// A schema that is read from what `cover` prints is a minimal cover, so that `check cover` says yes to it;
-/// what `cover canonical` prints is a canonical cover, and `check cover canonical` says yes to it. Where a text
-/// may have so many dependencies, what is printed means the schema with these in place of its own, whatever
-/// its names.
-pub fn printed_covers_are_confirmed()
-    ensures minimal { (schema : Schema) (printed : ResponseValue) → GivesCover schema printed
-        → PrintsCover ChecksCover schema printed }
-    ensures canonical { (schema : Schema) (printed : ResponseValue) → GivesCanonicalCover schema printed
-        → PrintsCover ChecksCanonicalCover schema printed }
 {}

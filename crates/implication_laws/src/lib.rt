@@ -4,8 +4,7 @@
 //! proof.
 //!
 //! Promises: what one answer says another confirms; `check cover` says yes to minimal covers alone, and
-//! `check cover canonical` to canonical ones; what `cover` and `cover canonical` print is read back as such a
-//! cover; each command on implication has one answer, but for the derivation of a goal.
+//! `check cover canonical` to canonical ones alone; each command on implication has one answer, but for the derivation of a goal.
 #![tactic(auto)]
 
 mod answering;
@@ -25,9 +24,7 @@ pub use answering::{
     discover_small_has_one_answer, exhibit_has_one_answer, explanations_have_one_answer,
     implies_has_one_answer, keys_has_one_answer, project_has_one_answer,
 };
-pub use covering::{
-    canonical_covers_are_confirmed, minimal_covers_are_confirmed, printed_covers_are_confirmed,
-};
+pub use covering::{canonical_covers_are_confirmed, minimal_covers_are_confirmed};
 pub use discovering::found_texts_mean_their_schema;
 pub use exhibiting::{
     exhibits_are_legal, exhibits_decide_goals, rules_of_exhibits_are_answered_alike,
