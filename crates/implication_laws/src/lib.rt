@@ -4,7 +4,8 @@
 //! proof.
 //!
 //! Promises: what one answer says another confirms; `check cover` says yes to minimal covers alone, and
-//! `check cover canonical` to canonical ones alone; each command on implication has one answer, but for the derivation of a goal.
+//! `check cover canonical` to canonical ones alone; each command on implication has one answer, but for the
+//! derivation of a goal.
 #![tactic(auto)]
 
 mod answering;
@@ -37,6 +38,6 @@ pub use rewriting::{
     covers_are_answered_alike, line_order_is_free, same_legal_relations_are_answered_alike,
 };
 pub use uniqueness::{
-    one_basis, one_fixed_cover, one_fixed_whole_cover, one_greedy_key, one_list_of_differences,
-    one_list_of_keys, one_list_of_rules, one_refutation,
+    one_basis, one_fixed_canonical_cover, one_fixed_cover, one_fixed_whole_cover, one_greedy_key,
+    one_list_of_differences, one_list_of_keys, one_list_of_rules, one_refutation,
 };
