@@ -1,5 +1,5 @@
 -- What is left to prove of `is_spare`: what it answers of an attribute of the right side.
-use Rattle.std.proofs.Common.{◌≡◌, ◌↔◌, List, set, refl, sym, ap, subst, ◌∙◌, arith}
+use Rattle.std.proofs.Common.{◌≡◌, ◌↔◌, true, List, set, refl, sym, ap, subst, ◌∙◌, arith}
 use Rattle.std.specs.Prelude.{All, IsTrue, slice_set}
 use Rattle.std.proofs.lemmas.Bool.{and_parts, eqb-true}
 use Rattle.std.proofs.lemmas.List.{map-set}

@@ -24,7 +24,7 @@ returns-in_ok-push-in-Some c =
     let ds = theory_of s in
     let k = c.args.k in
     record {
-      before = subst (λ (items : List CoverDiagnostic). AreCoverDiagnosticsBefore Canonical n ds k 1 items) (sym c.in_ok-push.ensures.items)
+      before = subst (λ (items : List CoverDiagnostic). AreCoverDiagnosticsBefore Canonical n ds k 1 items) (sym c.in_ok-push-in-Some.ensures.items)
           (gather_push Canonical n ds k 0 c.args.found.now.items (SameLeft k c.in-Some.first) (schema_narrow s) (schema_within s) c.requires.before
           (refl, c.in-Some.ensures.first) refl refl);
     }

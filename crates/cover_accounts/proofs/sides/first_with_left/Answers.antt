@@ -1,7 +1,7 @@
 -- What is left to prove of `first_with_left`: that the invariant of its loop stays, and what it gives.
 use Rattle.std.proofs.Common.{◌≡◌, ◌<◌, ℕ, true, Bool, sym, ap, subst, ◌∙◌, inl, inr, arith, refl}
 use Rattle.std.proofs.lemmas.Bool.{cases_eq, true≢false}
-use Rattle.std.specs.Prelude.{slice_get, Some}
+use Rattle.std.specs.Prelude.{slice_get, slice_index_or, Some}
 use Rattle.canonical_cover.specs.Merging.{have_same_left}
 use Rattle.dep_model.specs.declared.dep.Dep.{Dep}
 use Rattle.dep_model.specs.declared.dep.Dep.TheVariants.{Fd}
@@ -19,13 +19,15 @@ loop-j-preserved c = λ i d e less read there same.
     let s = c.args.theory.now in
     let deps = c.deps-deps.result.now in
     let j = c.loop-j.j in
+    let one = dependency_of (slice_index_or deps j first) in
+    let two = dependency_of (slice_index_or deps c.args.k first) in
     elim (cases_eq i j) [
       | inl at ↦
           let own = read_at s deps j first c.deps-deps.ensures.deps (omega (arith, c.loop-j-test.true, c.requires.position)) in
           let given = read_at s deps c.args.k first c.deps-deps.ensures.deps c.requires.position in
-          let d_is = there_is (theory_of s) i j d _ read at own in
-          let e_is = there_is (theory_of s) c.args.k c.args.k e _ there refl given in
-          true≢false (sym same ∙ ap (λ (x : Dependency). have_same_left x e) d_is ∙ ap (λ (x : Dependency). have_same_left _ x) e_is
+          let d_is : d ≡ one = there_is (theory_of s) i j d one read at own in
+          let e_is : e ≡ two = there_is (theory_of s) c.args.k c.args.k e two there refl given in
+          true≢false (sym same ∙ ap (λ (x : Dependency). have_same_left x e) d_is ∙ ap (λ (x : Dependency). have_same_left one x) e_is
           ∙ sym c.have_same_left.ensures.same ∙ c.if-have_same_left.false)
       | inr other ↦ c.loop-j.invariant i d e (omega (arith, less, other)) read there same
     ]
