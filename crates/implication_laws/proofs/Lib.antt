@@ -13,6 +13,7 @@ mod CanonicalLaws
 mod ConfirmedLaws
 mod ExhibitLaws
 mod FoundLaws
+mod ProjectLaws
 pub mod StepLaws
 pub mod OneAnswer
 pub mod OneDerivation

@@ -14,6 +14,7 @@ mod discovering;
 mod exhibiting;
 mod explaining;
 mod implying;
+mod projecting;
 mod rewriting;
 mod uniqueness;
 
@@ -34,6 +35,7 @@ pub use explaining::undetermined_attributes_are_in_every_key;
 pub use implying::{
     accepted_goals_are_implied, legal_rows_obey_implied_goals, yes_and_no_exclude_each_other,
 };
+pub use projecting::printed_projections_mean_their_part;
 pub use rewriting::{
     covers_are_answered_alike, line_order_is_free, same_legal_relations_are_answered_alike,
 };

@@ -1,4 +1,4 @@
 mod PrintedGoals
 pub mod CodedLemmas
 mod NumberedMembers
-mod PrintedParts
+pub mod PrintedParts
