@@ -9,8 +9,11 @@ mod AlikeLaws
 mod CoverLaws
 mod PartedLists
 mod MinimalLaws
+mod CanonicalLaws
+mod ConfirmedLaws
 mod ExhibitLaws
 mod FoundLaws
+mod ProjectLaws
 pub mod StepLaws
 pub mod OneAnswer
 pub mod OneDerivation

@@ -1,5 +1,5 @@
 -- The definitions of implication_laws, in reading order: schemas whose dependencies are written otherwise, what
--- it is that they answer alike, when a schema is minimal, and that one answer alone is allowed.
+-- it is that they answer alike, when a schema is a cover, and that one answer alone is allowed.
 pub mod Rewriting
 pub mod Alike
 pub mod Minimality
