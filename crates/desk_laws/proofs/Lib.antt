@@ -23,7 +23,6 @@ mod OneReferences
 mod ReferenceLaws
 mod OneTask
 mod DerivationLaws
-mod SampleWords
 mod NumberedNames
 mod ImportedLaws
 mod OneWords

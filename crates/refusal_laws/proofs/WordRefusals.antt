@@ -196,7 +196,7 @@ of_command looks r (form.import_csv file) =
 of_command looks r (form.import_sql dialect file table) =
     after_sql (file ∷ []) r file (Contains-head file []) (ImportsTable dialect table file)
     (import_refuses (file ∷ []) file (Contains-head file []) dialect table)
-of_command looks r (form.sample persons) = sample_refuses [] persons
+of_command looks r (form.sample persons) = λ response found. sample_refuses [] persons response found.1
 of_command looks r form.help = says_yes [] _
 of_command looks r form.version = says_yes [] _
 
