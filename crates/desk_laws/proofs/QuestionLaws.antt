@@ -16,7 +16,7 @@ use Rattle.plan_printer.specs.NamedPlans.{NamedSchemes}
 use Rattle.desk_outside.specs.Files.{Files}
 use Rattle.desk_responses.specs.ResponseValues.{ResponseValue, Allowed}
 use Rattle.desk_implication.specs.Bases.{TellsBasis}
-use Rattle.desk_words.specs.Forms.{form_of, form_over_schema, after_check, after_keys, two_schemas, schema_and_word}
+use Rattle.desk_words.specs.Forms.{form_of, form_over_schema, after_check, after_check_cover, after_keys, two_schemas, schema_and_word}
 use Rattle.desk_inputs.specs.FileKinds.{IsFile, WithFile}
 use Rattle.desk_inputs.specs.Inputs.{schema_file}
 use Rattle.desk_arguments.specs.Goals.{WithSet, SetStops, IsSetText}
@@ -25,7 +25,7 @@ use Rattle.desk_covers.specs.CoverChecks.{TestsCover}
 use Rattle.desk_keys.specs.KeyChecks.{TestsKey}
 use Rattle.desk_implication.specs.Projections.{ProjectsSet}
 use Rattle.desk_keys.specs.Keys.{ListsKeysOfPlan}
-use Rattle.desk_cli.specs.Performs.{Answers, Performs, Does, AnswersSchema, AnswersPlan}
+use Rattle.desk_cli.specs.Performs.{Answers, Performs, Does, AnswersPair, AnswersSchema, AnswersPlan}
 use Rattle.desk_inputs.specs.Plans.{plan_file}
 use Rattle.desk_inputs.specs.Readings.{known_files}
 use Rattle.desk_covers.specs.Sameness.{WithSameNames, Compares, LacksName}
@@ -189,7 +189,7 @@ two_answered files name other_name schema other rest decided held_schema held_ot
 same_asks : (files : Files) (name other_name : List ℕ) (looks : Looks) (response : ResponseValue)
     → Answers looks (known_files files) (codes "check" ∷ codes "same" ∷ name ∷ other_name ∷ []) response
     → WithFile schema_file (known_files files) name (λ r. WithFile schema_file (known_files files) other_name (λ p. WithSameNames r p name other_name (Compares r p name other_name))) response
-unfolding form_of form_over_schema after_check two_schemas Performs Does
+unfolding form_of form_over_schema after_check two_schemas Performs Does AnswersPair
 same_asks files name other_name looks response answered = answered
 
 pub same_answered : (files : Files) (name other_name : List ℕ) (schema other : Schema)
@@ -208,7 +208,7 @@ TestsCover-yes_or_no r p file other_file response (inr (same, (found, are, inr (
 cover_asks : (files : Files) (name other_name : List ℕ) (looks : Looks) (response : ResponseValue)
     → Answers looks (known_files files) (codes "check" ∷ codes "cover" ∷ name ∷ other_name ∷ []) response
     → WithFile schema_file (known_files files) name (λ r. WithFile schema_file (known_files files) other_name (λ p. WithSameNames r p name other_name (TestsCover r p name other_name))) response
-unfolding form_of form_over_schema after_check two_schemas Performs Does
+unfolding form_of form_over_schema after_check after_check_cover Performs Does AnswersPair
 cover_asks files name other_name looks response answered = answered
 
 pub cover_checked : (files : Files) (name other_name : List ℕ) (schema other : Schema)
@@ -218,3 +218,17 @@ pub cover_checked : (files : Files) (name other_name : List ℕ) (schema other :
 cover_checked files name other_name schema other held_schema held_other names looks response answered =
     two_answered files name other_name schema other TestsCover TestsCover-yes_or_no held_schema held_other names response
     (cover_asks files name other_name looks response answered)
+
+canonical_asks : (files : Files) (name other_name : List ℕ) (looks : Looks) (response : ResponseValue)
+    → Answers looks (known_files files) (codes "check" ∷ codes "cover" ∷ codes "canonical" ∷ name ∷ other_name ∷ []) response
+    → WithFile schema_file (known_files files) name (λ r. WithFile schema_file (known_files files) other_name (λ p. WithSameNames r p name other_name (TestsCanonicalCover r p name other_name))) response
+unfolding form_of form_over_schema after_check after_check_cover Performs Does AnswersPair
+canonical_asks files name other_name looks response answered = answered
+
+pub canonical_checked : (files : Files) (name other_name : List ℕ) (schema other : Schema)
+    → IsFile schema_file (known_files files) name schema → IsFile schema_file (known_files files) other_name other
+    → SameNames schema other
+    → IsAnswered files (codes "check" ∷ codes "cover" ∷ codes "canonical" ∷ name ∷ other_name ∷ [])
+canonical_checked files name other_name schema other held_schema held_other names looks response answered =
+    two_answered files name other_name schema other TestsCanonicalCover TestsCanonicalCover-yes_or_no held_schema held_other names response
+    (canonical_asks files name other_name looks response answered)

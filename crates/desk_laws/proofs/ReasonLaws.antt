@@ -23,9 +23,9 @@ use Rattle.desk_responses.specs.ResponseValues.{ResponseValue, Allowed, With}
 use Rattle.dep_model.specs.declared.form.Form.{Form}
 use Rattle.dep_model.specs.declared.form.Form.TheVariants.{Bcnf, Fourth}
 use Rattle.desk_responses.specs.declared.status.Status.{Status}
-use Rattle.desk_words.specs.Forms.{form_of, form_over_schema, after_explain, after_explain_split, after_explain_synthesize, schema_alone}
+use Rattle.desk_words.specs.Forms.{form_of, form_over_schema, after_explain, after_explain_split, after_explain_synthesize, schema_alone, schema_and_word}
 use Rattle.desk_laws.specs.Completeness.{IsYesOrNo, IsAnswered, HasPlanInForm}
-use Rattle.desk_laws.proofs.CompleteLaws.{after_schema, lists_keys}
+use Rattle.desk_laws.proofs.CompleteLaws.{after_goal, after_schema, lists_keys}
 use Rattle.desk_laws.proofs.TableLaws.{after_form}
 use Rattle.desk_tables.specs.OwnFolders.{Looks}
 
@@ -36,6 +36,21 @@ Explained-yes_or_no AreReasons answers response go (plain, is, inl (agrees, (rea
     inl (ap (λ (r : ResponseValue). r.status) reads ∙ agrees)
 Explained-yes_or_no AreReasons answers response go (plain, is, inr (stops, same)) =
     subst (λ (status : Status). IsYesOrNo status) (sym (ap (λ (r : ResponseValue). r.status) same)) (go plain is)
+
+implies_asks : (files : Files) (name goal : List ℕ) (looks : Looks) (response : ResponseValue)
+    → Answers looks (known_files files) (codes "explain" ∷ codes "implies" ∷ name ∷ goal ∷ []) response
+    → WithFile schema_file (known_files files) name (λ r. WithGoal r goal (ExplainsGoal r)) response
+unfolding form_of form_over_schema after_explain schema_and_word Performs Does AnswersSchema
+implies_asks files name goal looks response answered = answered
+
+pub implies_explained : (files : Files) (name goal : List ℕ) (schema : Schema) (dep : Dependency)
+    → IsFile schema_file (known_files files) name schema → IsGoal schema goal dep
+    → IsAnswered files (codes "explain" ∷ codes "implies" ∷ name ∷ goal ∷ [])
+implies_explained files name goal schema dep file is looks response answered =
+    ExplainsGoal-yes_or_no schema dep response
+    (after_goal schema goal dep (ExplainsGoal schema) response is
+    (after_schema files name schema (λ r. WithGoal r goal (ExplainsGoal r)) response file
+    (implies_asks files name goal looks response answered)))
 
 cover_asks : (files : Files) (name : List ℕ) (looks : Looks) (response : ResponseValue)
     → Answers looks (known_files files) (codes "explain" ∷ codes "cover" ∷ name ∷ []) response

@@ -37,7 +37,7 @@ ghost use Rattle.proof_text.specs.declared.text.TheConstants.{MOST_PROOF_BYTES};
 pub use begun::last_of_the_names_is_taken;
 pub use complete::{
     answered_calls_end, check_join_is_answered, check_proof_is_answered, check_rows_is_answered,
-    cover_is_answered, help_is_answered, implies_is_answered, keys_is_answered,
+    cover_canonical_is_answered, cover_is_answered, help_is_answered, implies_is_answered, keys_is_answered,
     synthesize_is_answered,
 };
 pub use complete_derivations::check_derivation_is_answered;
@@ -45,11 +45,11 @@ pub use complete_folders::migrate_into_is_answered;
 pub use complete_measures::{kept_is_answered, measure_is_answered, offences_is_answered};
 pub use complete_pages::{calls_answered_by_yes_end, report_is_answered};
 pub use complete_questions::{
-    basis_is_answered, check_cover_is_answered, check_key_is_answered, check_same_is_answered,
+    basis_is_answered, check_cover_canonical_is_answered, check_cover_is_answered, check_key_is_answered, check_same_is_answered,
     closure_is_answered, keys_of_plan_is_answered, project_is_answered,
 };
 pub use complete_reasons::{
-    explain_cover_is_answered, explain_fewest_is_answered, explain_keys_is_answered,
+    explain_cover_is_answered, explain_fewest_is_answered, explain_implies_is_answered, explain_keys_is_answered,
     explain_split_is_answered, explain_synthesize_is_answered,
 };
 pub use complete_references::{check_references_is_answered, discover_references_is_answered};

@@ -60,6 +60,12 @@ module _ (names : List (List ℕ)) (s : Schema) (are_names : All IsName (names_o
   pub implication_refuses : (goal : List ℕ) → RefusesSo names (DecidesGoal s goal)
   implication_refuses goal = after_goal names s goal (Decided s) decided
 
+  explained : (goal : Dependency) → RefusesSo names (ExplainsGoal s goal)
+  explained goal response found refused = absurd (explained_not_refused s goal response found refused)
+
+  pub explained_implication_refuses : (goal : List ℕ) → RefusesSo names (ExplainsImplication s goal)
+  explained_implication_refuses goal = after_goal names s goal (ExplainsGoal s) explained
+
   checked : (tree : Tree) (goal : Dependency) → RefusesSo names (Checked s tree goal)
   checked tree goal response (inl (proves, implied, said)) refused = says_yes names _ response said refused
   checked tree goal response (inr (other, (concluded, proves, said))) refused = says_no names _ response said refused
@@ -134,6 +140,9 @@ module _ (names : List (List ℕ)) (s : Schema) (are_names : All IsName (names_o
   pub cover_refuses : RefusesSo names (GivesCover s)
   cover_refuses response (whole, fixed, minimal, is, said) refused = says_yes names _ response said refused
 
+  pub canonical_cover_refuses : RefusesSo names (GivesCanonicalCover s)
+  canonical_cover_refuses response found refused = says_yes names _ response found.4 refused
+
   pub explained_cover_refuses : RefusesSo names (ExplainsCover s)
   explained_cover_refuses = explained_refuses names (AreCoverReasons s) (GivesCover s) cover_refuses
 
@@ -174,3 +183,14 @@ module _ (names : List (List ℕ)) (s t : Schema) (are_names : All IsName (names
 
   pub check_cover_refuses : RefusesSo names (ChecksCover s t file other_file)
   check_cover_refuses = same_names (TestsCover s t file other_file) cover_tested
+
+  canonical_tested : RefusesSo names (TestsCanonical t)
+  canonical_tested response (found, are, inl (none, said)) refused = says_yes names _ response said refused
+  canonical_tested response (found, are, inr (some, said)) refused = says_no names _ response said refused
+
+  canonical_cover_tested : RefusesSo names (TestsCanonicalCover s t file other_file)
+  canonical_cover_tested response (inl (of_schema, of_other, differ, said)) refused = says_no names _ response said refused
+  canonical_cover_tested response (inr (same, tests)) refused = canonical_tested response tests refused
+
+  pub check_canonical_refuses : RefusesSo names (ChecksCanonicalCover s t file other_file)
+  check_canonical_refuses = same_names (TestsCanonicalCover s t file other_file) canonical_cover_tested
