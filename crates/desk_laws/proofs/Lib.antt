@@ -23,6 +23,8 @@ mod OneReferences
 mod ReferenceLaws
 mod OneTask
 mod DerivationLaws
+mod AcceptedDerivations
+mod ConfirmedCovers
 mod NumberedNames
 mod ImportedLaws
 mod OneWords
