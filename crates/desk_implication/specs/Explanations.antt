@@ -35,8 +35,8 @@ pub record IsExplanation (schema : Schema) (goal : Dependency) (lines : List Lin
   pub derives : Derives schema (yes_text ++ derivation_text schema lines) goal
 
 -- yes with a derivation where the schema implies the goal, else what `implies` answers
-abbrev pub Explained : Schema → Dependency → Allowed
-Explained schema goal response =
+abbrev pub ExplainsGoal : Schema → Dependency → Allowed
+ExplainsGoal schema goal response =
     (ImpliedBy schema goal
     × ((lines : List Line) × IsExplanation schema goal lines
     × Says Yes (yes_text ++ derivation_text schema lines) response))
@@ -44,4 +44,4 @@ Explained schema goal response =
 
 -- the same of a goal that is given as a text
 abbrev pub ExplainsImplication : Schema → List ℕ → Allowed
-ExplainsImplication schema goal = WithGoal schema goal (Explained schema)
+ExplainsImplication schema goal = WithGoal schema goal (ExplainsGoal schema)

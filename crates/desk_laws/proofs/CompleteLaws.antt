@@ -14,7 +14,7 @@ use Rattle.desk_outside.specs.Files.{Files}
 use Rattle.desk_responses.specs.declared.status.Status.{Status}
 use Rattle.desk_responses.specs.ResponseValues.{ResponseValue, Allowed}
 use Rattle.desk_implication.specs.Certificates.{Checked}
-use Rattle.desk_covers.specs.Covering.{GivesCover}
+use Rattle.desk_covers.specs.Covering.{GivesCanonicalCover, GivesCover}
 use Rattle.desk_cli.specs.Desk.{Desk, FileSourceInCall, SinkInCall}
 use Rattle.desk_delivery.specs.Outcomes.{DestinationsInCall, OwnInCall}
 use Rattle.desk_words.specs.Forms.{form_of, after_check, after_cover, schema_and_two, no_more_arguments, form_over_schema, after_keys, after_synthesize, schema_and_word, schema_and_plan, schema_and_rows}
@@ -81,7 +81,7 @@ after_goal s goal dep rest response is answered =
     (goal_goes s goal dep response is)
     (λ d also. one_goal (naming_of s) (names_of s) goal d dep also.means is.means) answered
 
-Decided-yes_or_no : (r : Schema) (d : Dependency) (response : ResponseValue) → Decided r d response → IsYesOrNo response.status
+pub Decided-yes_or_no : (r : Schema) (d : Dependency) (response : ResponseValue) → Decided r d response → IsYesOrNo response.status
 Decided-yes_or_no r d response (inl (implied, found)) = inl (ap (λ (a : ResponseValue). a.status) found.4)
 Decided-yes_or_no r d response (inr (broken, found)) = inr (ap (λ (a : ResponseValue). a.status) found.3)
 

@@ -1,5 +1,6 @@
 -- What is asked of a schema, with the files after it, has one answer.
 use Rattle.std.proofs.Common.{ℕ, List, [], ◌∷◌, refl, sym, subst, inl, inr}
+use Rattle.cover_accounts.specs.declared.diagnostic.CoverForm.TheVariants.{Canonical, Minimal}
 use Rattle.dep_model.specs.Plans.{IsPlan}
 use Rattle.schema_model.specs.Schemas.{width_of}
 use Rattle.dep_model.specs.Tuples.{Relation}
@@ -8,7 +9,8 @@ use Rattle.plan_printer.specs.NamedPlans.{NamedSchemes}
 use Rattle.desk_outside.specs.Files.{Files}
 use Rattle.plan_laws.proofs.FolderAnswers.{one_form_into, one_plan_into}
 use Rattle.implication_laws.specs.OneAnswer.{AllowsOne}
-use Rattle.implication_laws.proofs.OneAnswer.{one_basis_answer, one_certificate_answer, one_cover_answer, one_exhibit_answer, one_goal_stop, one_keys_answer, one_same_answer}
+use Rattle.implication_laws.proofs.OneAnswer.{one_basis_answer, one_canonical_cover, one_certificate_answer, one_cover_answer, one_exhibit_answer, one_goal_stop, one_keys_answer, one_same_answer}
+use Rattle.implication_laws.proofs.ExplainedGoals.{explained_twice}
 use Rattle.implication_laws.proofs.OneDerivation.{one_derivation_answer}
 use Rattle.implication_laws.proofs.OneDecision.{one_decision}
 use Rattle.implication_laws.proofs.OneProjection.{one_projection_answer}
@@ -31,6 +33,7 @@ use Rattle.desk_cli.specs.Performs.{AnswersPair, AnswersPlan, AnswersRows, Answe
 use Rattle.desk_measures.specs.Measures.{MeasuresRows}
 use Rattle.desk_implication.specs.Certificates.{ChecksProof}
 use Rattle.desk_implication.specs.Derivations.{ChecksDerivation}
+use Rattle.desk_implication.specs.Explanations.{ExplainsImplication}
 use Rattle.desk_implication.specs.Implication.{DecidesGoal}
 use Rattle.desk_inputs.specs.FileKinds.{WithFile}
 use Rattle.desk_inputs.specs.Inputs.{derivation_file, proof_file, schema_file}
@@ -66,18 +69,27 @@ two_goals s goal one other (inr (d, is, inl (implied, (proof, proves, chain, dir
     (inr (e, also, inl (implied', (proof', proves', chain', direct', says')))) =
     inr (inl (record {
       goal = goal;
-      dependency = d;
+      both = record {
+        dependency = d;
+        means = is;
+        implied = implied;
+        one_says_yes = says-status Yes _ one says;
+        other_says_yes = says-status Yes _ other says';
+      };
       asks = inl (
         refl,
         λ fixed. one_decision s goal d one other is (λ yes. fixed)
             (inr (d, is, inl (implied, (proof, proves, chain, direct, says))))
             (inr (e, also, inl (implied', (proof', proves', chain', direct', says')))),
       );
-      means = is;
-      implied = implied;
-      one_says_yes = says-status Yes _ one says;
-      other_says_yes = says-status Yes _ other says';
     }))
+
+two_explained : (s : Schema) (goal : List ℕ) (one other : ResponseValue) → ExplainsImplication s goal one
+    → ExplainsImplication s goal other → IsOneButForProof s (form.of_schema (form.explain_implies goal)) one other
+two_explained s goal one other first second = elim (explained_twice s goal one other first second) [
+  | inl same ↦ inl same
+  | inr both ↦ inr (inl (record { goal = goal; both = both; asks = inr refl }))
+]
 
 -- ---- questions
 pub one_schema_answer : (question : SchemaQuestion) (s : Schema) (one other : ResponseValue)
@@ -127,9 +139,9 @@ pub one_answer_of_pair : (s t : Schema) (file other_file : List ℕ) (question :
     → AllowsOne (AnswersPair s t file other_file question)
 unfolding AnswersPair
 one_answer_of_pair s t file other_file form.check_same one other = one_same_answer s t file other_file one other
-one_answer_of_pair s t file other_file form.check_cover one other = one_cover_check s t file other_file one other
+one_answer_of_pair s t file other_file form.check_cover one other = one_cover_check Minimal s t file other_file one other
 one_answer_of_pair s t file other_file form.check_cover_canonical one other =
-    one_canonical_check s t file other_file one other
+    one_cover_check Canonical s t file other_file one other
 
 pub one_answer_of_rows : (s : Schema) (rows : Relation) (question : RowsQuestion)
     → AllowsOne (AnswersRows s rows question)

@@ -25,7 +25,7 @@ use Rattle.dep_model.specs.declared.form.Form.TheVariants.{Bcnf, Fourth}
 use Rattle.desk_responses.specs.declared.status.Status.{Status}
 use Rattle.desk_words.specs.Forms.{form_of, form_over_schema, after_explain, after_explain_split, after_explain_synthesize, schema_alone, schema_and_word}
 use Rattle.desk_laws.specs.Completeness.{IsYesOrNo, IsAnswered, HasPlanInForm}
-use Rattle.desk_laws.proofs.CompleteLaws.{after_goal, after_schema, lists_keys}
+use Rattle.desk_laws.proofs.CompleteLaws.{Decided-yes_or_no, after_goal, after_schema, lists_keys}
 use Rattle.desk_laws.proofs.TableLaws.{after_form}
 use Rattle.desk_tables.specs.OwnFolders.{Looks}
 
@@ -36,6 +36,11 @@ Explained-yes_or_no AreReasons answers response go (plain, is, inl (agrees, (rea
     inl (ap (λ (r : ResponseValue). r.status) reads ∙ agrees)
 Explained-yes_or_no AreReasons answers response go (plain, is, inr (stops, same)) =
     subst (λ (status : Status). IsYesOrNo status) (sym (ap (λ (r : ResponseValue). r.status) same)) (go plain is)
+
+ExplainsGoal-yes_or_no : (r : Schema) (d : Dependency) (response : ResponseValue) → ExplainsGoal r d response
+    → IsYesOrNo response.status
+ExplainsGoal-yes_or_no r d response (inl (implied, (lines, found, says))) = inl (ap (λ (a : ResponseValue). a.status) says)
+ExplainsGoal-yes_or_no r d response (inr (broken, found)) = Decided-yes_or_no r d response found
 
 implies_asks : (files : Files) (name goal : List ℕ) (looks : Looks) (response : ResponseValue)
     → Answers looks (known_files files) (codes "explain" ∷ codes "implies" ∷ name ∷ goal ∷ []) response

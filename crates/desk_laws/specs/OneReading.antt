@@ -1,11 +1,8 @@
 -- When a text has one reading, and words one answer: for the laws of `one_answer`. `Desk` does not cite it.
 use Rattle.std.specs.Prelude.{◌≡◌, ◌⊎◌, ℕ, List, Some, length}
-use Rattle.dep_model.specs.Dependencies.{Dependency}
-use Rattle.schema_model.specs.Schemas.{ImpliedBy}
 use Rattle.schema_model.specs.Schemas.{Schema}
 use Rattle.headed_rows.specs.Headings.{HeadedRows}
-use Rattle.implication_laws.specs.OneAnswer.{HasFixedProof}
-use Rattle.desk_arguments.specs.Goals.{IsGoal}
+use Rattle.implication_laws.specs.OneAnswer.{AreBothYes, HasFixedProof}
 use Rattle.desk_discovery.specs.Discoveries.{RefusesRules}
 use Rattle.desk_discovery.specs.KeyDiscoveries.{RefusesRowKeys}
 use Rattle.desk_inputs.specs.FileKinds.{IsFile}
@@ -24,22 +21,13 @@ pub record HasOneReading {Value Refusal : Type 0} (Means : Value → Type 0) (Re
   pub one_refusal : (refusal other : Refusal) → Refuses refusal → Refuses other → refusal ≡ other
   pub never_both : (value : Value) (refusal : Refusal) → Means value → Refuses refusal → ⊥
 
--- a goal is asked for, by `implies`, whose answers are equal where the derivation that is printed is fixed, or by
--- `explain implies`
-abbrev pub AsksForDerivation : Schema → Task → List ℕ → Dependency → ResponseValue → ResponseValue → Type 0
-AsksForDerivation schema task goal dependency one other =
-    ((task ≡ of_schema (implies goal)) × (HasFixedProof schema dependency → one ≡ other))
-    ⊎ (task ≡ of_schema (explain_implies goal))
-
--- it is asked whether a goal is implied, and it is: both answers say so
+-- it is asked whether a goal is implied, and it is: both answers say so. `implies` asks, whose answers are equal
+-- where the derivation that is printed is fixed, or `explain implies`
 pub record BothDerive (schema : Schema) (task : Task) (one other : ResponseValue) : Type 0 where
   pub goal : List ℕ
-  pub dependency : Dependency
-  pub asks : AsksForDerivation schema task goal dependency one other
-  pub means : IsGoal schema goal dependency
-  pub implied : ImpliedBy schema dependency
-  pub one_says_yes : one.status ≡ Yes
-  pub other_says_yes : other.status ≡ Yes
+  pub both : AreBothYes schema goal one other
+  pub asks : ((task ≡ of_schema (implies goal)) × (HasFixedProof schema both.dependency → one ≡ other))
+      ⊎ (task ≡ of_schema (explain_implies goal))
 
 -- a page is asked for, of the schema of a file, or of it and a plan
 abbrev pub AsksForAPage : Task → Type 0

@@ -19,4 +19,5 @@ pub mod OneProjection
 pub mod OneReasons
 mod EveryKeyLaws
 pub mod OneDecision
+pub mod ExplainedGoals
 pub mod OnePlanAnswer

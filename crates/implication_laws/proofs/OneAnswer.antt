@@ -12,6 +12,7 @@ use Rattle.armstrong_rel.specs.ClosedSets.{IsIrreducible}
 use Rattle.armstrong_rel.specs.Refusals.{IsFirstMvd, AreTooMany}
 use Rattle.armstrong_rel.proofs.OneExhibit.{exhibit_same}
 use Rattle.armstrong_rel.proofs.TupleLemmas.{length-tuples_for}
+use Rattle.canonical_cover.specs.Merging.{merge_left_sides}
 use Rattle.csv_text.specs.Rows.{rows_text}
 use Rattle.dep_basis.proofs.DecidingLemmas.{least_same}
 use Rattle.dep_basis.specs.Traces.{blocks_of}
@@ -44,7 +45,7 @@ use Rattle.desk_texts.specs.Texts.{line, set_line}
 use Rattle.desk_refusals.specs.Refusals.{goal_refusal_text, set_refusal_text}
 use Rattle.desk_implication.specs.Bases.{TellsBasis, GivesBasis, blocks_text}
 use Rattle.desk_implication.specs.Certificates.{Checked, ChecksProof}
-use Rattle.desk_covers.specs.Covering.{GivesCover}
+use Rattle.desk_covers.specs.Covering.{GivesCanonicalCover, GivesCover}
 use Rattle.desk_discovery.specs.Discoveries.{FindsRules, FindsSmallRules, GivesRules, GivesSmallRules, RefusesRules, found_text, left_sides_text}
 use Rattle.near_rules.specs.NearRules.{IsFirstExceeded}
 use Rattle.near_rules.specs.declared.found.TooManyTried.{TooManyTried}
@@ -142,6 +143,13 @@ pub one_cover_answer : (schema : Schema) → AllowsOne (GivesCover schema)
 one_cover_answer schema one other (whole, fixed, minimal, covers, says) (entire, also, minimal_too, covers_too, said) =
     same_says Yes _ _ one other says said
     (ap (schema_text schema) (one_whole_cover (width_of schema) (theory_of schema) whole entire fixed also))
+
+pub one_canonical_cover : (schema : Schema) → AllowsOne (GivesCanonicalCover schema)
+one_canonical_cover schema one other (cover, fixed, minimal, covers, says) (more, also, minimal_too, covers_too, said) =
+    let whole : fixed.whole ≡ also.whole =
+    one_whole_cover (width_of schema) (theory_of schema) fixed.whole also.whole fixed.fixed also.fixed in
+    same_says Yes _ _ one other says said
+    (ap (schema_text schema) (fixed.once ∙ ap merge_left_sides whole ∙ sym also.once))
 
 -- ---- bases
 one_told : (schema : Schema) (x : Attributes) → AllowsOne (TellsBasis schema x)

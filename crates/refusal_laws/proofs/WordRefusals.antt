@@ -9,6 +9,7 @@ use Rattle.schema_model.specs.Schemas.{Schema, names_of}
 use Rattle.headed_rows.specs.Headings.{HeadedRows, discovered}
 use Rattle.plan_printer.specs.NamedPlans.{NamedSchemes}
 use Rattle.table_join.specs.Tables.{tables_of}
+use Rattle.cover_accounts.specs.declared.diagnostic.CoverForm.TheVariants.{Canonical, Minimal}
 use Rattle.desk_cli.specs.Performs.{AnswersPair, Answers, AnswersPlan, AnswersRows, AnswersRules, AnswersSchema, Does, Performs, WithValues}
 use Rattle.desk_discovery.specs.AllDiscoveries.{FindsAllRules}
 use Rattle.desk_implication.specs.Certificates.{ChecksProof}
@@ -36,7 +37,7 @@ use Rattle.refusal_laws.proofs.FileRefusals.{after_derivation, after_headed, aft
 use Rattle.refusal_laws.proofs.FileRefusals.{after_headed_files}
 use Rattle.refusal_laws.proofs.FormRefusals.{explained_fewest_refuses, fewest_refuses, form_of_all_refuses, forms_refuse}
 use Rattle.refusal_laws.proofs.PlanRefusals.{check_scripted, explained_split_refuses, explained_synthesis_refuses, form_drawn, form_into, form_placed, form_refuses, form_scripted, form_written, join_refuses, joined, keeping_refuses, measure_scripted, plan_drawn, plan_into, plan_placed, plan_scripted, plan_written, rows_refuse, sample_refuses, split_refuses, synthesis_refuses, wide_split_refuses}
-use Rattle.refusal_laws.proofs.QuestionRefusals.{basis_refuses, canonical_cover_refuses, check_canonical_refuses, check_cover_refuses, closure_refuses, cover_refuses, derivation_refuses, exhibit_refuses, explained_cover_refuses, explained_implication_refuses, explained_keys_refuse, implication_refuses, key_refuses, keys_refuse, plan_keys_refuse, projection_refuses, proof_refuses, same_refuses}
+use Rattle.refusal_laws.proofs.QuestionRefusals.{basis_refuses, canonical_cover_refuses, check_cover_refuses, closure_refuses, cover_refuses, derivation_refuses, exhibit_refuses, explained_cover_refuses, explained_implication_refuses, explained_keys_refuse, implication_refuses, key_refuses, keys_refuse, plan_keys_refuse, projection_refuses, proof_refuses, same_refuses}
 use Rattle.refusal_laws.proofs.ReferenceRefusals.{check_references_refuses, references_refuse}
 use Rattle.refusal_laws.proofs.RefusalLemmas.{RefusesSo, says_plain, says_yes}
 use Rattle.refusal_laws.proofs.RowRefusals.{all_rules_refuse, columns_refuse, import_refuses, kept_refuses, measure_refuses, near_rules_refuse, offences_by_row_refuse, offences_refuse, page_refuses, plan_page_refuses, row_keys_refuse, rules_refuse, small_rules_refuse}
@@ -101,8 +102,8 @@ module _ (names : List (List ℕ)) (s t : Schema) (are_names : All IsName (names
   of_pair : (question : PairQuestion) → RefusesSo names (AnswersPair s t file other_file question)
   unfolding AnswersPair
   of_pair form.check_same = same_refuses names s t are_names others file other_file given other_given
-  of_pair form.check_cover = check_cover_refuses names s t are_names others file other_file given other_given
-  of_pair form.check_cover_canonical = check_canonical_refuses names s t are_names others file other_file given other_given
+  of_pair form.check_cover = check_cover_refuses names s t are_names others file other_file given other_given Minimal
+  of_pair form.check_cover_canonical = check_cover_refuses names s t are_names others file other_file given other_given Canonical
 
 of_rules : (file : List ℕ) (question : RulesQuestion) (headed : HeadedRows) → All IsName headed.names
     → RefusesSo (file ∷ []) (AnswersRules question file headed)
