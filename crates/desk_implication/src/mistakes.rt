@@ -1,0 +1,205 @@
+ghost use Rattle.std.specs.Prelude.{◌≡◌, ◌++◌, All, IfOk, OnOk};
+ghost use Rattle.std.specs.Fmt.{decimal};
+ghost use Rattle.schema_printer.specs.Spelling.{printed_names_of};
+ghost use Rattle.derivation.specs.Derivs.{step_of, pair_of};
+ghost use Rattle.derivation_rules.specs.Views.{further_of};
+ghost use Rattle.derivation_grammar.specs.Meanings.{further_name};
+ghost use Rattle.derivation_text.specs.Views.{body_of_line};
+ghost use Rattle.derivation_mistakes.specs.Views.{mistake_of, mistaken_line_of, mistaken_lines_of, IsMistakenLineWithin, IsMistakeWithin};
+ghost use Rattle.desk_implication.specs.MistakeTexts.{follows_text, misuse_text, mistake_text, mistaken_line_text, mistaken_lines_text, pair_name, rule_text, step_name, with_number};
+
+use byte_texts::{add, add_number};
+use dep_model::OutOfMemory;
+use derivation::{PairRule, StepRule};
+use derivation_mistakes::{Mistake, MistakenLine, Misuse};
+use derivation_rules::FurtherRule;
+use derivation_text::DerivationBody;
+use desk_texts::add_displayed;
+use proof_text::Body;
+use schema_model::Schema;
+use schema_printer::print_dep;
+use std::alloc::Global;
+
+/// What is printed of the lines of a derivation with which something is wrong.
+pub fn mistaken_line_texts(
+    alloc: Global,
+    schema: &Schema,
+    found: &[MistakenLine],
+) -> Result<Vec<u8>, OutOfMemory>
+    requires within { All (IsMistakenLineWithin schema.now) found.now }
+    ensures text { IfOk result (λ text. text.items
+        ≡ mistaken_lines_text (printed_names_of schema.now) (mistaken_lines_of found.now)) }
+{
+    let mut text = Vec::new(alloc);
+    for mistaken in found {
+        put_mistaken_line(alloc, &mut text, schema, mistaken)?;
+    }
+    Ok(text)
+}
+
+// A wrong line, at the end of a text.
+fn put_mistaken_line(
+    alloc: Global,
+    text: &mut Vec<u8>,
+    schema: &Schema,
+    mistaken: &MistakenLine,
+) -> Result<(), OutOfMemory>
+    requires within { IsMistakenLineWithin schema.now mistaken.now }
+    ensures added { OnOk result (text.new.items
+        ≡ text.old.items ++ mistaken_line_text (printed_names_of schema.now) (mistaken_line_of mistaken.now)) }
+{
+    let line = mistaken.line;
+    add(text, b"line ")?;
+    add_number(text, alloc, line.number)?;
+    add(text, b": ")?;
+    put_rule(alloc, text, line.body)?;
+    put_mistake(alloc, text, schema, mistaken.mistake)?;
+    add(text, b"\n  ")?;
+    add(text, &print_dep(alloc, schema, line.stated)?)?;
+    add(text, follows_words(mistaken.follows))?;
+    add(text, b"\n")
+}
+
+// Whether what a line states follows.
+fn follows_words(follows: bool) -> &'static [u8]
+    ensures words { result.now ≡ follows_text follows }
+{
+    if follows {
+        b" follows"
+    } else {
+        b" does not follow"
+    }
+}
+
+// What is wrong with a line, at the end of a text.
+fn put_mistake(
+    alloc: Global,
+    text: &mut Vec<u8>,
+    schema: &Schema,
+    mistake: Mistake,
+) -> Result<(), OutOfMemory>
+    requires within { IsMistakeWithin schema.now mistake }
+    ensures added { OnOk result (text.new.items
+        ≡ text.old.items ++ mistake_text (printed_names_of schema.now) (mistake_of mistake)) }
+{
+    match mistake {
+        Mistake::DoesNotApply(why) => {
+            add(text, b" does not apply: ")?;
+            put_misuse(alloc, text, why)
+        }
+        Mistake::Gives(dep) => {
+            add(text, b" gives ")?;
+            add(text, &print_dep(alloc, schema, dep)?)
+        }
+    }
+}
+
+// Why a rule does not apply, at the end of a text.
+fn put_misuse(alloc: Global, text: &mut Vec<u8>, why: Misuse) -> Result<(), OutOfMemory>
+    ensures added { OnOk result (text.new.items ≡ text.old.items ++ misuse_text why) }
+{
+    match why {
+        Misuse::AnotherKind(m) => {
+            put_words(alloc, text, b"line ", m)?;
+            add(text, b" is of another kind")
+        }
+        Misuse::NotTheLeftSide(m, k) => {
+            put_words(alloc, text, b"the right side of ", m)?;
+            put_words(alloc, text, b" is not the left side of ", k)
+        }
+        Misuse::LeftSidesDiffer(m, k) => {
+            put_words(alloc, text, b"the left sides of ", m)?;
+            put_words(alloc, text, b" and ", k)?;
+            add(text, b" differ")
+        }
+        Misuse::NotWithinLeftSide(m, k) => {
+            put_words(alloc, text, b"the right side of ", m)?;
+            put_words(alloc, text, b" does not lie within the left side of ", k)
+        }
+        Misuse::AnotherLeftSide(m) => put_words(alloc, text, b"the left side is not that of ", m),
+        Misuse::NotWithinRightSide(m) => {
+            put_words(
+                alloc,
+                text,
+                b"the right side does not lie within that of ",
+                m,
+            )
+        }
+        Misuse::Fault(kind) => add_displayed(text, alloc, &kind),
+    }
+}
+
+// Words and a number, at the end of a text.
+fn put_words(
+    alloc: Global,
+    text: &mut Vec<u8>,
+    words: &[u8],
+    number: u32,
+) -> Result<(), OutOfMemory>
+    ensures added { OnOk result (text.new.items ≡ text.old.items ++ (words.now ++ decimal number)) }
+{
+    add(text, words)?;
+    add_number(text, alloc, number)
+}
+
+// A rule with its numbers, without its sets, at the end of a text.
+fn put_rule(alloc: Global, text: &mut Vec<u8>, body: DerivationBody) -> Result<(), OutOfMemory>
+    ensures added { OnOk result (text.new.items ≡ text.old.items ++ rule_text (body_of_line body)) }
+{
+    match body {
+        DerivationBody::Rule(Body::Given(k)) => put_named(alloc, text, b"given", k),
+        DerivationBody::Rule(Body::Reflexivity) => add(text, b"reflexivity"),
+        DerivationBody::Rule(Body::MReflexivity) => add(text, b"mreflexivity"),
+        DerivationBody::Rule(Body::Step(rule, p)) => put_named(alloc, text, step_name(rule), p),
+        DerivationBody::Rule(Body::Pair(rule, p, q)) => {
+            put_named(alloc, text, pair_name(rule), p)?;
+            put_words(alloc, text, b" ", q)
+        }
+        DerivationBody::Decomposition(p) => put_named(alloc, text, b"decomposition", p),
+        DerivationBody::Further(rule, p, q) => {
+            put_named(alloc, text, further_name(rule), p)?;
+            put_words(alloc, text, b" ", q)
+        }
+    }
+}
+
+// A name and a number, at the end of a text.
+fn put_named(alloc: Global, text: &mut Vec<u8>, name: &[u8], number: u32) -> Result<(), OutOfMemory>
+    ensures added { OnOk result (text.new.items ≡ text.old.items ++ with_number name.now number) }
+{
+    add(text, name)?;
+    put_words(alloc, text, b" ", number)
+}
+
+fn step_name(rule: StepRule) -> &'static [u8]
+    ensures name { result.now ≡ step_name (step_of rule) }
+{
+    match rule {
+        StepRule::Augmentation { .. } => b"augmentation",
+        StepRule::Complementation => b"complementation",
+        StepRule::MAugmentation { .. } => b"maugmentation",
+        StepRule::Replication => b"replication",
+    }
+}
+
+fn pair_name(rule: PairRule) -> &'static [u8]
+    ensures name { result.now ≡ pair_name (pair_of rule) }
+{
+    match rule {
+        PairRule::Transitivity => b"transitivity",
+        PairRule::MTransitivity => b"mtransitivity",
+        PairRule::Coalescence => b"coalescence",
+    }
+}
+
+fn further_name(rule: FurtherRule) -> &'static [u8]
+    ensures name { result.now ≡ further_name (further_of rule) }
+{
+    match rule {
+        FurtherRule::Union => b"union",
+        FurtherRule::Pseudotransitivity => b"pseudotransitivity",
+        FurtherRule::Intersection => b"intersection",
+        FurtherRule::Difference => b"difference",
+        FurtherRule::MPseudotransitivity => b"mpseudotransitivity",
+    }
+}
