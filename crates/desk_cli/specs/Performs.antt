@@ -154,7 +154,7 @@ Does looks r schema (form.migrate_plan_into planned file folder) =
 Does looks r schema (form.check_proof file goal) =
     WithFile (proof_file schema) r file (λ tree. ChecksProof schema tree goal)
 Does looks r schema (form.check_derivation file goal) =
-    WithFile (derivation_file schema) r file (λ derived. ChecksDerivation schema derived goal)
+    WithFile (derivation_file schema) r file (λ lines. ChecksDerivation schema lines goal)
 Does looks r schema (form.of_pair file other_file question) =
     WithFile schema_file r other_file (λ other. AnswersPair schema other file other_file question)
 Does looks r schema (form.rejoin files) = WithParts r schema files (λ parts. JoinsTables schema (tables_of parts))

@@ -1,30 +1,26 @@
 -- What is printed after yes by `explain implies` is accepted as a derivation.
-use Rattle.std.proofs.Common.{◌≡◌, ◌≤◌, ℕ, List, [], ◌∷◌, length, Some, inl, inr, sym, ◌∙◌, ap, subst}
+use Rattle.std.proofs.Common.{◌≡◌, ℕ, List, [], ◌∷◌, inl, inr, sym, ◌∙◌, ap, subst}
 use Rattle.std.specs.Prelude.{codes}
 use Rattle.dep_model.specs.Dependencies.{Dependency}
 use Rattle.schema_model.specs.Schemas.{Schema}
 use Rattle.derivation_grammar.specs.Derivations.{Derives, LastStates}
 use Rattle.derivation_grammar.specs.Lines.{DerivationLine}
-use Rattle.derivation_grammar.specs.Meanings.{MeansDerivation}
 use Rattle.derivation_mistakes.specs.Mistakes.{AreMistakenLines}
 use Rattle.implication_laws.proofs.ImplyingLaws.{no_not_yes}
-use Rattle.proof_text.specs.declared.text.TheConstants.{MOST_PROOF_BYTES}
 use Rattle.desk_arguments.specs.Goals.{IsGoal, WithGoal}
 use Rattle.desk_cli.specs.Performs.{Answers, Performs, Does, AnswersSchema}
-use Rattle.desk_implication.specs.Derivations.{ChecksDerivation, DerivationChecked}
+use Rattle.desk_implication.specs.Derivations.{DerivationChecked, DerivationJudged}
 use Rattle.desk_implication.specs.Explanations.{ExplainsGoal}
 use Rattle.desk_inputs.specs.FileKinds.{IsFile, WithFile}
 use Rattle.desk_inputs.specs.Inputs.{derivation_file, schema_file}
 use Rattle.desk_inputs.specs.Readings.{known_files}
-use Rattle.desk_outside.specs.Files.{Files, bytes_of_file}
+use Rattle.desk_outside.specs.Files.{Files}
 use Rattle.desk_responses.specs.ResponseValues.{ResponseValue}
 use Rattle.desk_responses.specs.declared.status.Status.TheVariants.{Yes}
 use Rattle.desk_tables.specs.OwnFolders.{Looks}
-use Rattle.desk_words.specs.Forms.{form_of, form_over_schema, after_check, after_explain, schema_and_two, schema_and_word}
+use Rattle.desk_words.specs.Forms.{form_of, form_over_schema, after_explain, schema_and_word}
 use Rattle.desk_laws.specs.AcceptedTexts.{PrintedDerivationIsAccepted}
-use Rattle.desk_laws.proofs.CompleteLaws.{after_goal, after_schema}
-use Rattle.desk_laws.proofs.OneFile.{after_file}
-use Rattle.desk_laws.proofs.OneText.{derivation_text_once}
+use Rattle.desk_laws.proofs.DerivationLaws.{after_derivation}
 use Rattle.desk_laws.proofs.StopLemmas.{goal_says, schema_says}
 
 -- ---- the first answer
@@ -61,4 +57,37 @@ why_there files schema goal response says_yes (inr (of, file, rest)) = asked res
     asked (inl exit) = absurd (goal_says of goal response says_yes exit)
     asked (inr (dep, is, rest)) = explained dep is rest
 
+why_answers : (looks : Looks) (files : Files) (schema goal : List ℕ) (response : ResponseValue)
+    → Answers looks (known_files files) (codes "explain" ∷ codes "implies" ∷ schema ∷ goal ∷ []) response
+    → WithFile schema_file (known_files files) schema (λ s. WithGoal s goal (ExplainsGoal s)) response
+unfolding form_of form_over_schema after_explain schema_and_word Performs Does AnswersSchema
+why_answers looks files schema goal response answered = answered
+
 -- ---- the second answer
+
+judged_yes : (s : Schema) (lines : List DerivationLine) (dep : Dependency) (response : ResponseValue)
+    → AreMistakenLines s [] lines [] → LastStates lines dep → DerivationChecked s lines dep response
+    → response.status ≡ Yes
+judged_yes s lines dep response none last (found, concluded, are, states, judged) =
+    by (one_mistaken s lines found [] are none) (one_last lines concluded dep states last) judged
+  where
+    by : found ≡ [] → concluded ≡ dep → DerivationJudged s found concluded dep response → response.status ≡ Yes
+    by empty same (inl (right, agrees, implied, says)) = ap (λ (a : ResponseValue). a.status) says
+    by empty same (inr (inl (some, agrees, says))) = absurd (some empty)
+    by empty same (inr (inr (differs, says))) = absurd (differs same)
+
+-- the same schema, what was printed and the same goal are read, and no line is wrong
+pub derivation_accepted : PrintedDerivationIsAccepted
+derivation_accepted schema goal looks later before after file printed response answered says_yes same kept within_limit again =
+    let said = why_there before schema goal printed says_yes (why_answers looks before schema goal printed answered) in
+    let held_schema : IsFile schema_file (known_files after) schema said.of = record {
+      bytes = said.file.bytes;
+      content = (same ∙ said.file.content.0, said.file.content.1);
+      means = said.file.means;
+    } in
+    let right = (derives_law said.of printed.text said.dep).0 said.derives in
+    let held_derivation : IsFile (derivation_file said.of) (known_files after) file right.0 =
+    record { bytes = printed.text; content = (kept, within_limit); means = right.1 } in
+    judged_yes said.of right.0 said.dep response right.2 right.3
+    (after_derivation after schema file goal later said.of right.0 said.dep response held_schema held_derivation
+    said.is_goal again)

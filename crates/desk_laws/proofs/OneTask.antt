@@ -194,8 +194,8 @@ one_task looks files s (form.check_proof file goal) one other single first secon
     inl (one_after_file files file (proof_file s) (proof_text_once s) (λ tree. ChecksProof s tree goal)
     (λ tree is. one_certificate_answer s tree goal) one other first second)
 one_task looks files s (form.check_derivation file goal) one other single first second =
-    inl (one_after_file files file (derivation_file s) (derivation_text_once s) (λ derived. ChecksDerivation s derived goal)
-    (λ derived is. one_derivation_answer s derived goal) one other first second)
+    inl (one_after_file files file (derivation_file s) (derivation_text_once s) (λ lines. ChecksDerivation s lines goal)
+    (λ lines is. one_derivation_answer s lines goal) one other first second)
 one_task looks files s (form.of_pair file other_file question) one other single first second =
     inl (one_after_file files other_file schema_file schema_once (λ t. AnswersPair s t file other_file question)
     (λ t is. one_answer_of_pair s t file other_file question) one other first second)
