@@ -11,6 +11,8 @@ mod PartedLists
 mod MinimalLaws
 mod ExhibitLaws
 mod FoundLaws
+mod WrittenSchemas
+mod WrittenCovers
 pub mod StepLaws
 pub mod OneAnswer
 pub mod OneDerivation
