@@ -165,7 +165,7 @@ join_answered files name file schema plan held_schema held_plan small looks resp
     (join_asks files name file looks response answered)))
 
 -- ---- schemas alone
-cover_asks : (files : Files) (name : List ℕ) (looks : Looks) (response : ResponseValue)
+pub cover_asks : (files : Files) (name : List ℕ) (looks : Looks) (response : ResponseValue)
     → Answers looks (known_files files) (codes "cover" ∷ name ∷ []) response → WithFile schema_file (known_files files) name GivesCover response
 unfolding form_of form_over_schema after_cover Performs Does AnswersSchema
 cover_asks files name looks response answered = answered
@@ -176,7 +176,7 @@ cover_answered files name schema file looks response answered =
     let found = after_schema files name schema GivesCover response file (cover_asks files name looks response answered) in
     inl (ap (λ (a : ResponseValue). a.status) found.4)
 
-canonical_asks : (files : Files) (name : List ℕ) (looks : Looks) (response : ResponseValue)
+pub canonical_asks : (files : Files) (name : List ℕ) (looks : Looks) (response : ResponseValue)
     → Answers looks (known_files files) (codes "cover" ∷ codes "canonical" ∷ name ∷ []) response
     → WithFile schema_file (known_files files) name GivesCanonicalCover response
 unfolding form_of form_over_schema after_cover Performs Does AnswersSchema

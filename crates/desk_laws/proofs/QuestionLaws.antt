@@ -208,7 +208,7 @@ TestsCover-yes_or_no form r p file other_file response (inl (there, back, differ
 TestsCover-yes_or_no form r p file other_file response (inr (same, (found, are, inl (none, says)))) = inl (ap (λ (a : ResponseValue). a.status) says)
 TestsCover-yes_or_no form r p file other_file response (inr (same, (found, are, inr (some, says)))) = inr (ap (λ (a : ResponseValue). a.status) says)
 
-cover_asks : (files : Files) (name other_name : List ℕ) (looks : Looks) (response : ResponseValue)
+pub cover_asks : (files : Files) (name other_name : List ℕ) (looks : Looks) (response : ResponseValue)
     → Answers looks (known_files files) (codes "check" ∷ codes "cover" ∷ name ∷ other_name ∷ []) response
     → WithFile schema_file (known_files files) name (λ r. WithFile schema_file (known_files files) other_name (λ p. WithSameNames r p name other_name (TestsCover Minimal r p name other_name))) response
 unfolding form_of form_over_schema after_check after_check_cover Performs Does AnswersPair
@@ -222,7 +222,7 @@ cover_checked files name other_name schema other held_schema held_other names lo
     two_answered files name other_name schema other (TestsCover Minimal) (TestsCover-yes_or_no Minimal) held_schema held_other names response
     (cover_asks files name other_name looks response answered)
 
-canonical_asks : (files : Files) (name other_name : List ℕ) (looks : Looks) (response : ResponseValue)
+pub canonical_asks : (files : Files) (name other_name : List ℕ) (looks : Looks) (response : ResponseValue)
     → Answers looks (known_files files) (codes "check" ∷ codes "cover" ∷ codes "canonical" ∷ name ∷ other_name ∷ []) response
     → WithFile schema_file (known_files files) name (λ r. WithFile schema_file (known_files files) other_name (λ p. WithSameNames r p name other_name (TestsCover Canonical r p name other_name))) response
 unfolding form_of form_over_schema after_check after_check_cover Performs Does AnswersPair

@@ -1,6 +1,6 @@
 //! Laws that what one command prints after yes, kept in a file, another accepts.
 
-ghost use Rattle.desk_laws.specs.AcceptedTexts.{PrintedCanonicalCoverIsConfirmed, PrintedDerivationIsAccepted, PrintedProofIsAccepted};
+ghost use Rattle.desk_laws.specs.AcceptedTexts.{PrintedCanonicalCoverIsConfirmed, PrintedCoverIsConfirmed, PrintedDerivationIsAccepted, PrintedProofIsAccepted};
 
 /// What `implies` prints after yes, kept in a file, is accepted by `check proof` for the same schema and
 /// goal, where the text is within the limit of certificate files.
@@ -14,8 +14,9 @@ pub fn printed_derivation_is_accepted()
     ensures law { PrintedDerivationIsAccepted }
 {}
 
-/// What `cover canonical` prints, kept in a file, is confirmed by `check cover canonical` for the same schema,
-/// where the text is within the limit of schema files.
-pub fn printed_canonical_cover_is_confirmed()
-    ensures law { PrintedCanonicalCoverIsConfirmed }
+/// What `cover` prints, kept in a file, is confirmed by `check cover` for the same schema, and what
+/// `cover canonical` prints by `check cover canonical`, where the text is within the limits of schema files.
+pub fn printed_covers_are_confirmed()
+    ensures minimal { PrintedCoverIsConfirmed }
+    ensures canonical { PrintedCanonicalCoverIsConfirmed }
 {}

@@ -4,7 +4,7 @@
 //! proof.
 //!
 //! Promises: what `implies` prints, `check proof` accepts, and `check derivation` what `explain implies`
-//! prints; what `cover canonical` prints, `check cover canonical` confirms; what `ddl` prints, `import`
+//! prints; what `cover` prints, `check cover` confirms, canonical or not; what `ddl` prints, `import`
 //! reads back; what `discover references` lists, `check references` confirms; where nothing fails, a
 //! call whose inputs have a meaning is answered; over known files any two answers to words are equal,
 //! but for the derivation of a goal.
@@ -28,7 +28,7 @@ mod one_measure;
 mod one_references;
 
 pub use accepted::{
-    printed_canonical_cover_is_confirmed, printed_derivation_is_accepted, printed_proof_is_accepted,
+    printed_covers_are_confirmed, printed_derivation_is_accepted, printed_proof_is_accepted,
 };
 pub use begun::last_of_the_names_is_taken;
 pub use complete::{

@@ -12,7 +12,7 @@ mod MinimalLaws
 mod ExhibitLaws
 mod FoundLaws
 mod WrittenSchemas
-mod WrittenCovers
+pub mod WrittenCovers
 pub mod StepLaws
 pub mod OneAnswer
 pub mod OneDerivation

@@ -1,26 +1,36 @@
 -- What `cover` and `cover canonical` print means a schema with the dependencies of the cover.
-use Rattle.std.proofs.Common.{◌≡◌, ◌≤◌, ℕ, List, length, sym, ap, subst}
-use Rattle.std.specs.Prelude.{All, not}
+use Rattle.std.proofs.Common.{◌≡◌, ◌≤◌, ℕ, List, [], ◌∷◌, ◌++◌, length, length-append, refl, sym, ap, subst, arith}
+use Rattle.std.specs.List.{count_by}
+use Rattle.std.specs.Prelude.{All, if◌then◌else◌, map, not}
+use Rattle.std.proofs.lemmas.List.{length-map}
 use Rattle.std.proofs.lemmas.List.Elements.{All-filter}
+use Rattle.std.proofs.lemmas.List.Sums.{sum_by-append}
 use Rattle.attr_sets.specs.Attributes.{below}
 use Rattle.canonical_cover.specs.Canonical.{IsFixedCanonicalCover}
 use Rattle.canonical_cover.proofs.MergeLemmas.{merged_within}
-use Rattle.dep_model.specs.Dependencies.{Dependency, IsWithin, is_fd}
-use Rattle.dep_model.specs.Deps.{IsDepWithin}
+use Rattle.dep_model.specs.Dependencies.{Dependency, IsWithin, functional_part, is_fd}
 use Rattle.dep_model.proofs.DepLemmas.{dependencies_all-from}
-use Rattle.min_cover.specs.Covers.{IsFixedWholeCover, multivalued_part}
+use Rattle.min_cover.specs.Covers.{HaveSameLegal, IsFixedWholeCover, IsMinimalCover, IsWholeCover, multivalued_part}
 use Rattle.min_cover.proofs.CoverLemmas.{thinned_all}
 use Rattle.synthesis_3nf.proofs.WithinLemmas.{cover_within}
 use Rattle.schema_grammar.proofs.DeclaredNames.{declared_read_back}
 use Rattle.schema_grammar.specs.Schemas.{MeansSchema}
 use Rattle.schema_grammar.specs.Texts.{declarations_of}
 use Rattle.schema_grammar.specs.declared.format.TheConstants.{MOST_DEPENDENCY_LINES}
-use Rattle.schema_model.specs.Schemas.{Schema, deps_of, theory_of, universe_of, width_of}
-use Rattle.schema_printer.specs.Printing.{schema_text}
+use Rattle.lexer.specs.Lines.{is_line_feed}
+use Rattle.schema_model.specs.Schemas.{Schema, deps_of, naming_of, nullable_of, theory_of, types_of, universe_of, width_of}
+use Rattle.schema_printer.specs.Printing.{dependency_text, lines_text, schema_lines, schema_text}
+use Rattle.schema_printer.specs.Spelling.{printed_names_of}
+use Rattle.schema_match.specs.Carried.{HaveSameLegalRelations}
+use Rattle.schema_match.specs.Columns.{SameNames}
+use Rattle.desk_covers.specs.CoverChecks.{ChecksCanonicalCover, ChecksCover}
 use Rattle.desk_covers.specs.Covering.{GivesCanonicalCover, GivesCover}
 use Rattle.desk_responses.specs.ResponseValues.{ResponseValue, Says}
 use Rattle.desk_responses.specs.declared.status.Status.TheVariants.{Yes}
-use Rattle.implication_laws.specs.Rewriting.{IsRewritten, MeansRewritten}
+use Rattle.implication_laws.specs.Rewriting.{IsRewritten, MeansConfirmed}
+use Rattle.implication_laws.proofs.AlikeLaws.{alike}
+use Rattle.implication_laws.proofs.MinimalLaws.{said_yes}
+use Rattle.implication_laws.proofs.SameNamesLemmas.{same_names}
 use Rattle.implication_laws.proofs.WrittenSchemas.{written_means}
 
 -- ---- covers lie within the universe
@@ -40,9 +50,47 @@ canonical_within s cover is =
     (merged_within (universe_of s) is.whole (whole_within (width_of s) (theory_of s) is.whole (theory_within s) is.fixed))
 
 -- ---- printed covers
+-- a schema that is rewritten with dependencies for which the same relations are legal says the same
+module _ (s t : Schema) (ds : List Dependency) (is : IsRewritten s ds t)
+    (same : HaveSameLegal (width_of s) ds (theory_of s)) where
+  names_stay : SameNames s t
+  names_stay = same_names s t is.named.names
+
+  legal_stay : HaveSameLegalRelations s t
+  legal_stay =
+      let own : HaveSameLegal (width_of s) (theory_of t) (theory_of s) =
+      subst (λ (es : List Dependency). HaveSameLegal (width_of s) es (theory_of s)) (sym is.named.theory) same in
+      (alike s t is.named.naming is.named.names own).there.legal
+
+-- what is said of a width and dependencies is said of those of a rewritten schema
+of_rewritten : (P : ℕ → List Dependency → Type 0) (s t : Schema) (ds : List Dependency) → IsRewritten s ds t
+    → P (width_of s) ds → P (width_of t) (theory_of t)
+of_rewritten P s t ds is holds =
+    subst (λ (es : List Dependency). P (width_of t) es) (sym is.named.theory)
+    (subst (λ (names : List (List ℕ)). P (length names) ds) is.named.names holds)
+
+-- the functional part of a whole cover is a minimal cover of itself
+abbrev IsMinimalAlone : ℕ → List Dependency → Type 0
+IsMinimalAlone n ds = IsMinimalCover n ds (functional_part ds) × IsWholeCover n ds ds
+
+minimal_alone : (n : ℕ) (ds whole : List Dependency) → IsMinimalCover n ds (functional_part whole) → IsWholeCover n ds whole
+    → IsMinimalAlone n whole
+minimal_alone n ds whole minimal covers = (
+  record {
+    single = minimal.single;
+    same_legal = λ r. ((λ legal. legal), (λ legal. legal));
+    needed = minimal.needed;
+    short = λ d has i left implied.
+        minimal.short d has i left (λ r legal. implied r ((minimal.same_legal r).1 legal));
+  },
+  record { same_legal = λ r. ((λ legal. legal), (λ legal. legal)); needed = covers.needed },
+)
+
+-- a text means such a schema, where its lines suffice
 printed_means : (text : List ℕ) (s : Schema) (ds : List Dependency) (printed : ResponseValue)
     → MeansSchema text (declarations_of s) → All (IsWithin (universe_of s)) ds → Says Yes (schema_text s ds) printed
-    → length ds ≤ MOST_DEPENDENCY_LINES → MeansRewritten s ds printed.text
+    → length ds ≤ MOST_DEPENDENCY_LINES
+    → (t : Schema) × IsRewritten s ds t × MeansSchema printed.text (declarations_of t)
 printed_means text s ds printed means within says few =
     let found = written_means s ds within few (declared_read_back text (declarations_of s) means) in (
       found.0,
@@ -51,22 +99,72 @@ printed_means text s ds printed means within says few =
           (sym (ap (λ (r : ResponseValue). r.text) says)) found.2,
     )
 
-pub printed_cover_means : (text : List ℕ) (s : Schema) (printed : ResponseValue) → MeansSchema text (declarations_of s)
+pub cover_confirmed : (text : List ℕ) (s : Schema) (printed : ResponseValue) → MeansSchema text (declarations_of s)
     → GivesCover s printed
     → (whole : List Dependency) × Says Yes (schema_text s whole) printed
-    × (length whole ≤ MOST_DEPENDENCY_LINES → MeansRewritten s whole printed.text)
-printed_cover_means text s printed means (whole, fixed, minimal, covers, says) = (
-  whole,
-  says,
-  printed_means text s whole printed means (whole_within (width_of s) (theory_of s) whole (theory_within s) fixed) says,
-)
+    × (length whole ≤ MOST_DEPENDENCY_LINES → MeansConfirmed ChecksCover s whole printed.text)
+cover_confirmed text s printed means (whole, fixed, minimal, covers, says) = (whole, says, confirmed)
+  where
+    confirmed : length whole ≤ MOST_DEPENDENCY_LINES → MeansConfirmed ChecksCover s whole printed.text
+    confirmed few =
+        let n = width_of s in
+        let ds = theory_of s in
+        let found = printed_means text s whole printed means (whole_within n ds whole (theory_within s) fixed) says few in
+        let t = found.0 in
+        let alone = of_rewritten IsMinimalAlone s t whole found.1 (minimal_alone n ds whole minimal covers) in (
+          t,
+          found.1,
+          found.2,
+          λ file other_file response checks. (said_yes s t file other_file response checks).1 (
+            names_stay s t whole found.1 covers.same_legal,
+            legal_stay s t whole found.1 covers.same_legal,
+            record { functional = alone.0; multivalued = alone.1 },
+          ),
+        )
 
-pub printed_canonical_means : (text : List ℕ) (s : Schema) (printed : ResponseValue) → MeansSchema text (declarations_of s)
+pub canonical_confirmed : (text : List ℕ) (s : Schema) (printed : ResponseValue) → MeansSchema text (declarations_of s)
     → GivesCanonicalCover s printed
     → (cover : List Dependency) × Says Yes (schema_text s cover) printed
-    × (length cover ≤ MOST_DEPENDENCY_LINES → MeansRewritten s cover printed.text)
-printed_canonical_means text s printed means (cover, fixed, canonical, covers, says) = (
-  cover,
-  says,
-  printed_means text s cover printed means (canonical_within s cover fixed) says,
-)
+    × (length cover ≤ MOST_DEPENDENCY_LINES → MeansConfirmed ChecksCanonicalCover s cover printed.text)
+canonical_confirmed text s printed means (cover, fixed, canonical, covers, says) = (cover, says, confirmed)
+  where
+    confirmed : length cover ≤ MOST_DEPENDENCY_LINES → MeansConfirmed ChecksCanonicalCover s cover printed.text
+    confirmed few =
+        let n = width_of s in
+        let ds = theory_of s in
+        let found = printed_means text s cover printed means (canonical_within s cover fixed) says few in
+        let t = found.0 in
+        let alone = of_rewritten IsCanonicalAlone s t cover found.1 (canonical_alone n ds cover canonical covers) in (
+          t,
+          found.1,
+          found.2,
+          λ file other_file response checks. (canonical_said_yes s t file other_file response checks).1 (
+            names_stay s t cover found.1 covers.same_legal,
+            legal_stay s t cover found.1 covers.same_legal,
+            record { functional = alone.0; multivalued = alone.1 },
+          ),
+        )
+
+-- ---- lines
+-- a text of lines has a line feed for each
+feeds_of_lines : (lines : List (List ℕ)) → length lines ≤ count_by is_line_feed (lines_text lines)
+feeds_of_lines [] = omega arith
+feeds_of_lines (line ∷ lines) =
+    let weigh : ℕ → ℕ = λ b. if is_line_feed b then 1 else 0 in
+    let rest = feeds_of_lines lines in
+    let whole = sum_by-append weigh (line ++ 10 ∷ []) (lines_text lines) in
+    let here = sum_by-append weigh line (10 ∷ []) in
+    let one : count_by is_line_feed (10 ∷ []) ≡ 1 = refl in
+    omega (arith, rest, whole, here, one)
+
+-- so a printed schema has no more dependencies than lines
+pub dependencies_on_lines : (s : Schema) (ds : List Dependency) → length ds ≤ count_by is_line_feed (schema_text s ds)
+unfolding schema_text
+dependencies_on_lines s ds =
+    let names = printed_names_of s in
+    let declared = schema_lines (naming_of s) (types_of s) names (nullable_of s) in
+    let more = map (dependency_text names) ds in
+    let size = length-append declared more in
+    let each = length-map ds (dependency_text names) in
+    let feeds = feeds_of_lines (declared ++ more) in
+    omega (arith, size, each, feeds)

@@ -80,6 +80,33 @@ with_lines s ds lines =
       nullable = nullable_of s;
     }
 
+-- what such a schema declares, and its text, by the parts of the other
+same_declared : (s t : Schema) (ds : List Dependency) (lines : List ℕ) → IsRewritten s ds t
+    → with_lines t (theory_of t) lines ≡ with_lines s ds lines
+same_declared s t ds lines is =
+    let naming = sym is.named.naming in
+    let names = sym is.named.names in
+    let columns = sym is.columns in
+    let nullable = sym is.nullable in
+    λ i. record {
+      names = names i;
+      columns = columns i;
+      deps = is.named.theory i;
+      lines = lines;
+      naming = naming i;
+      nullable = nullable i;
+    }
+
+same_text : (s t : Schema) (ds : List Dependency) → IsRewritten s ds t → schema_text t (theory_of t) ≡ schema_text s ds
+unfolding schema_text printed_names_of
+same_text s t ds is =
+    let naming = sym is.named.naming in
+    let names = sym is.named.names in
+    let columns = sym is.columns in
+    let nullable = sym is.nullable in
+    λ i. lines_text (schema_lines (naming i) (columns i) (map (spelling (naming i)) (names i)) (nullable i)
+    ++ map (dependency_text (map (spelling (naming i)) (names i))) (is.named.theory i))
+
 module _ (s : Schema) (ds : List Dependency) (within : All (IsWithin (universe_of s)) ds)
     (few : length ds ≤ MOST_DEPENDENCY_LINES) where
   rewritten : (lines : List ℕ) → length lines ≡ length ds
@@ -105,8 +132,7 @@ module _ (s : Schema) (ds : List Dependency) (within : All (IsWithin (universe_o
         };
         typed = s.typed;
         numbers = record { of_nullable = s.numbers.of_nullable; of_deps = found.1 };
-      } in
-      (
+      } in (
         t,
         record {
           named = record { naming = refl; names = refl; theory = found.2 };
@@ -133,28 +159,9 @@ module _ (s : Schema) (ds : List Dependency) (within : All (IsWithin (universe_o
       let each : length lines ≡ length ds = one_line (schema_text t (theory_of t)) _ law.1 ∙ ap length theory in
       let last = rewritten lines each in
       let declared : with_lines t (theory_of t) lines ≡ declarations_of last.0 =
-      same_declared t first.1 lines ∙ sym last.2 in
-      (
+      same_declared s t ds lines first.1 ∙ sym last.2 in (
         last.0,
         last.1,
-        subst (λ (text : List ℕ). MeansSchema text (declarations_of last.0)) (same_text t first.1)
+        subst (λ (text : List ℕ). MeansSchema text (declarations_of last.0)) (same_text s t ds first.1)
             (subst (λ (d : Declarations). MeansSchema (schema_text t (theory_of t)) d) declared law.1),
       )
-    where
-      same_declared : (t : Schema) → IsRewritten s ds t → (lines : List ℕ)
-          → with_lines t (theory_of t) lines ≡ with_lines s ds lines
-      same_declared t is lines = λ i. record {
-        names = is.named.names (~ i);
-        columns = is.columns (~ i);
-        deps = is.named.theory i;
-        lines = lines;
-        naming = is.named.naming (~ i);
-        nullable = is.nullable (~ i);
-      }
-
-      same_text : (t : Schema) → IsRewritten s ds t → schema_text t (theory_of t) ≡ schema_text s ds
-      unfolding schema_text printed_names_of
-      same_text t is = λ i.
-          let names = map (spelling (is.named.naming (~ i))) (is.named.names (~ i)) in
-          lines_text (schema_lines (is.named.naming (~ i)) (is.columns (~ i)) names (is.nullable (~ i))
-          ++ map (dependency_text names) (is.named.theory i))

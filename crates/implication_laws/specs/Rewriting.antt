@@ -6,6 +6,8 @@ use Rattle.schema_model.specs.Schemas.{naming_of, names_of, types_of, nullable_o
 use Rattle.schema_model.specs.Schemas.{Schema}
 use Rattle.schema_grammar.specs.Schemas.{MeansSchema}
 use Rattle.schema_grammar.specs.Texts.{declarations_of}
+use Rattle.desk_responses.specs.ResponseValues.{Allowed, ResponseValue}
+use Rattle.desk_responses.specs.declared.status.Status.TheVariants.{Yes}
 
 -- two schemas with the same names, written alike, and with the same dependencies in any order
 pub record HaveSameDependencies (schema other : Schema) : Type 0 where
@@ -25,7 +27,9 @@ pub record IsRewritten (schema : Schema) (ds : List Dependency) (other : Schema)
   pub columns : types_of schema ≡ types_of other
   pub nullable : nullable_of schema ≡ nullable_of other
 
--- a text means such a schema
-abbrev pub MeansRewritten : Schema → List Dependency → List ℕ → Type 0
-MeansRewritten schema ds text =
+-- a text means such a schema, and to it, beside the first, yes is always the answer
+abbrev pub MeansConfirmed : (Schema → Schema → List ℕ → List ℕ → Allowed) → Schema → List Dependency → List ℕ → Type 0
+MeansConfirmed Checks schema ds text =
     (other : Schema) × IsRewritten schema ds other × MeansSchema text (declarations_of other)
+    × ((file other_file : List ℕ) (response : ResponseValue) → Checks schema other file other_file response
+    → response.status ≡ Yes)

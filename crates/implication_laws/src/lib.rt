@@ -34,7 +34,7 @@ pub use implying::{
     accepted_goals_are_implied, legal_rows_obey_implied_goals, yes_and_no_exclude_each_other,
 };
 pub use rewriting::{
-    covers_are_answered_alike, line_order_is_free, printed_covers_mean_their_schema,
+    covers_are_answered_alike, line_order_is_free, printed_covers_are_confirmed,
     same_legal_relations_are_answered_alike,
 };
 pub use uniqueness::{

@@ -9,11 +9,12 @@ ghost use Rattle.schema_grammar.specs.Schemas.{MeansSchema};
 ghost use Rattle.schema_grammar.specs.Texts.{declarations_of};
 ghost use Rattle.schema_grammar.specs.declared.format.TheConstants.{MOST_DEPENDENCY_LINES};
 ghost use Rattle.schema_printer.specs.Printing.{schema_text};
+ghost use Rattle.desk_covers.specs.CoverChecks.{ChecksCanonicalCover, ChecksCover};
 ghost use Rattle.desk_covers.specs.Covering.{GivesCanonicalCover, GivesCover};
 ghost use Rattle.desk_responses.specs.ResponseValues.{ResponseValue, Says};
 ghost use Rattle.desk_responses.specs.declared.status.Status.TheVariants.{Yes};
 ghost use Rattle.implication_laws.specs.Alike.{AnswerAlike, AnswersAlikeWith};
-ghost use Rattle.implication_laws.specs.Rewriting.{HaveSameDependencies, MeansRewritten};
+ghost use Rattle.implication_laws.specs.Rewriting.{HaveSameDependencies, MeansConfirmed};
 
 /// Two schemas with the same names, written alike, for which the same relations are legal are answered alike.
 pub fn same_legal_relations_are_answered_alike()
@@ -36,14 +37,15 @@ pub fn covers_are_answered_alike()
 
 /// What `cover` and `cover canonical` print of the schema of a text means a schema with the same names, columns and
 /// columns that may lack values, and with the dependencies of the cover, whatever the names; where these are not more
-/// than a schema text may have.
-pub fn printed_covers_mean_their_schema()
+/// than a schema text may have. `check cover`, or `check cover canonical`, says yes to it.
+pub fn printed_covers_are_confirmed()
     ensures cover { (text : List ℕ) (schema : Schema) (printed : ResponseValue)
         → MeansSchema text (declarations_of schema) → GivesCover schema printed
         → (whole : List Dependency) × Says Yes (schema_text schema whole) printed
-        × (length whole ≤ MOST_DEPENDENCY_LINES → MeansRewritten schema whole printed.text) }
+        × (length whole ≤ MOST_DEPENDENCY_LINES → MeansConfirmed ChecksCover schema whole printed.text) }
     ensures canonical { (text : List ℕ) (schema : Schema) (printed : ResponseValue)
         → MeansSchema text (declarations_of schema) → GivesCanonicalCover schema printed
         → (cover : List Dependency) × Says Yes (schema_text schema cover) printed
-        × (length cover ≤ MOST_DEPENDENCY_LINES → MeansRewritten schema cover printed.text) }
+        × (length cover ≤ MOST_DEPENDENCY_LINES
+        → MeansConfirmed ChecksCanonicalCover schema cover printed.text) }
 {}
