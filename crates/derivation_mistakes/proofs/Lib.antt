@@ -1,1 +1,4 @@
--- The lemmas of derivation_mistakes.
+pub mod MisuseLemmas
+pub mod OneMistake
+pub mod ReasonLemmas
+pub mod MistakenLines

@@ -1,8 +1,9 @@
 -- Why the rule of a line does not apply to what the lines before state: for what is wrong with a line.
-use Rattle.std.specs.Prelude.{◌≡◌, ◌≤◌, ℕ, Bool, true, false, List, [], ◌∷◌, Option, Some, option_map, Err}
+use Rattle.std.specs.Prelude.{◌≡◌, ◌⊎◌, ◌≤◌, ℕ, Bool, true, false, List, [], ◌∷◌, Option, Some, option_map, Err}
 use Rattle.attr_sets.specs.Sets.{is_same, is_subset}
 use Rattle.schema_model.specs.Schemas.{Schema}
 use Rattle.dep_model.specs.Dependencies.{Dependency, is_fd, left_of, right_of}
+use Rattle.derivation.specs.declared.fault.FaultKind.{FaultKind}
 use Rattle.derivation.specs.Trees.{augmentation, complementation, maugmentation, replication, transitivity, mtransitivity, coalescence}
 use Rattle.proof_grammar.specs.Lines.{by_step, by_pair}
 use Rattle.derivation_rules.specs.FurtherRules as further
@@ -52,50 +53,55 @@ IsFirstOfAnotherKind before (w ∷ ws) m =
     ⊎ ((kind_at before w.line ≡ w.kind) × IsFirstOfAnotherKind before ws m)
 
 -- ---- the sides of premises
--- a test fails of what a line states
+-- what a rule asks of the sides of its premises: that the right side of the one is the left side of the
+-- other, that their left sides are the same, that the right side of the one lies within the left side of the
+-- other, or that what is stated has the premise's left side and a part of its right side
+pub data Asked : Type 0 where
+  nothing : Asked
+  chain : ℕ → ℕ → Asked
+  same_left : ℕ → ℕ → Asked
+  within_left : ℕ → ℕ → Asked
+  part : ℕ → Asked
+
+abbrev pub asked_by : DerivationBody → Asked
+asked_by (by_rule (by_pair transitivity p q)) = chain p q
+asked_by (by_rule (by_pair mtransitivity p q)) = chain p q
+asked_by (by_rule _) = nothing
+asked_by (by_decomposition p) = part p
+asked_by (by_further further.union p q) = same_left p q
+asked_by (by_further further.intersection p q) = same_left p q
+asked_by (by_further further.difference p q) = same_left p q
+asked_by (by_further further.pseudotransitivity p q) = within_left p q
+asked_by (by_further further.mpseudotransitivity p q) = within_left p q
+
+-- a test fails of what a line states, or of what two lines state
 abbrev pub Fails : List Dependency → ℕ → (Dependency → Bool) → Type 0
-Fails before m test = (x : Dependency) × (stated_at before m ≡ Some x) × (test x ≡ false)
+Fails before p test = (x : Dependency) × (stated_at before p ≡ Some x) × (test x ≡ false)
 
--- a test fails of what two lines state; they are the premises of a rule
-abbrev pub FailsOfTwo : List Dependency → ℕ → ℕ → ℕ → ℕ → (Dependency → Dependency → Bool) → Type 0
-FailsOfTwo before p q m k test = (m ≡ p) × (k ≡ q)
-    × ((x y : Dependency) × (stated_at before p ≡ Some x) × (stated_at before q ≡ Some y) × (test x y ≡ false))
+abbrev pub FailsOfTwo : List Dependency → ℕ → ℕ → (Dependency → Dependency → Bool) → Type 0
+FailsOfTwo before p q test =
+    (x y : Dependency) × (stated_at before p ≡ Some x) × (stated_at before q ≡ Some y) × (test x y ≡ false)
 
--- the right side of the one is the left side of the other
-abbrev pub is_chain : Dependency → Dependency → Bool
-is_chain x y = is_same (right_of x) (left_of y)
-
-abbrev pub same_left_sides : Dependency → Dependency → Bool
-same_left_sides x y = is_same (left_of x) (left_of y)
-
--- the right side of the one lies within the left side of the other
-abbrev pub leads_into : Dependency → Dependency → Bool
-leads_into x y = is_subset (right_of x) (left_of y)
+-- the premises lack what is asked of their sides; m and k are their numbers
+abbrev pub Lacks : List Dependency → Dependency → Asked → Misuse → Type 0
+Lacks before stated (chain p q) (NotTheLeftSide m k) =
+    (m ≡ p) × (k ≡ q) × FailsOfTwo before p q (λ x y. is_same (right_of x) (left_of y))
+Lacks before stated (same_left p q) (LeftSidesDiffer m k) =
+    (m ≡ p) × (k ≡ q) × FailsOfTwo before p q (λ x y. is_same (left_of x) (left_of y))
+Lacks before stated (within_left p q) (NotWithinLeftSide m k) =
+    (m ≡ p) × (k ≡ q) × FailsOfTwo before p q (λ x y. is_subset (right_of x) (left_of y))
+Lacks before stated (part p) (AnotherLeftSide m) =
+    (m ≡ p) × Fails before p (λ x. is_same (left_of stated) (left_of x))
+Lacks before stated (part p) (NotWithinRightSide m) =
+    (m ≡ p) × Fails before p (λ x. is_subset (right_of stated) (right_of x))
+Lacks before stated _ _ = ⊥
 
 -- ---- why a rule does not apply
--- what a reason says is so; m and k are the numbers of premises
+-- what a reason says is so
 abbrev pub Hinders : Schema → List Dependency → Dependency → DerivationBody → Misuse → Type 0
 Hinders s before stated body (AnotherKind m) = IsFirstOfAnotherKind before (wanted_by before body) m
-Hinders s before stated (by_rule (by_pair transitivity p q)) (NotTheLeftSide m k) =
-    FailsOfTwo before p q m k is_chain
-Hinders s before stated (by_rule (by_pair mtransitivity p q)) (NotTheLeftSide m k) =
-    FailsOfTwo before p q m k is_chain
-Hinders s before stated (by_further further.union p q) (LeftSidesDiffer m k) =
-    FailsOfTwo before p q m k same_left_sides
-Hinders s before stated (by_further further.intersection p q) (LeftSidesDiffer m k) =
-    FailsOfTwo before p q m k same_left_sides
-Hinders s before stated (by_further further.difference p q) (LeftSidesDiffer m k) =
-    FailsOfTwo before p q m k same_left_sides
-Hinders s before stated (by_further further.pseudotransitivity p q) (NotWithinLeftSide m k) =
-    FailsOfTwo before p q m k leads_into
-Hinders s before stated (by_further further.mpseudotransitivity p q) (NotWithinLeftSide m k) =
-    FailsOfTwo before p q m k leads_into
-Hinders s before stated (by_decomposition p) (AnotherLeftSide m) =
-    (m ≡ p) × Fails before p (λ x. is_same (left_of stated) (left_of x))
-Hinders s before stated (by_decomposition p) (NotWithinRightSide m) =
-    (m ≡ p) × Fails before p (λ x. is_subset (right_of stated) (right_of x))
 Hinders s before stated body (Fault kind) = outcome_of_line s before stated body ≡ Some (Err kind)
-Hinders s before stated _ _ = ⊥
+Hinders s before stated body why = Lacks before stated (asked_by body) why
 
 -- the order of reasons: kinds first, then what the rule asks of sides, then the fault that certificates have
 abbrev pub misuse_rank : Misuse → ℕ
@@ -107,8 +113,10 @@ misuse_rank (AnotherLeftSide m) = 1
 misuse_rank (NotWithinRightSide m) = 2
 misuse_rank (Fault kind) = 3
 
--- the first reason why the rule of a line does not apply
+-- the rule of a line gives nothing, and this is the first reason
 pub record IsMisuse (s : Schema) (before : List Dependency) (stated : Dependency) (body : DerivationBody)
     (why : Misuse) : Type 0 where
+  pub kind : FaultKind
+  pub gives_nothing : outcome_of_line s before stated body ≡ Some (Err kind)
   pub hinders : Hinders s before stated body why
   pub first : (other : Misuse) → Hinders s before stated body other → misuse_rank why ≤ misuse_rank other

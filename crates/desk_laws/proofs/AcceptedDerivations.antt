@@ -5,7 +5,10 @@ use Rattle.dep_model.specs.Dependencies.{Dependency}
 use Rattle.schema_model.specs.Schemas.{Schema}
 use Rattle.derivation_grammar.specs.Derivations.{Derives, LastStates}
 use Rattle.derivation_grammar.specs.Lines.{DerivationLine}
-use Rattle.derivation_mistakes.specs.Mistakes.{AreMistakenLines}
+use Rattle.derivation_grammar.proofs.DerivedLines.{one_last}
+use Rattle.derivation_mistakes.specs.Mistakes.{AreMistakenLines, MistakenLine}
+use Rattle.derivation_mistakes.proofs.MistakenLines.{derives_without_mistakes}
+use Rattle.derivation_mistakes.proofs.OneMistake.{one_list}
 use Rattle.implication_laws.proofs.ImplyingLaws.{no_not_yes}
 use Rattle.desk_arguments.specs.Goals.{IsGoal, WithGoal}
 use Rattle.desk_cli.specs.Performs.{Answers, Performs, Does, AnswersSchema}
@@ -69,7 +72,7 @@ judged_yes : (s : Schema) (lines : List DerivationLine) (dep : Dependency) (resp
     → AreMistakenLines s [] lines [] → LastStates lines dep → DerivationChecked s lines dep response
     → response.status ≡ Yes
 judged_yes s lines dep response none last (found, concluded, are, states, judged) =
-    by (one_mistaken s lines found [] are none) (one_last lines concluded dep states last) judged
+    by (one_list s [] lines found [] are none) (one_last lines concluded dep states last) judged
   where
     by : found ≡ [] → concluded ≡ dep → DerivationJudged s found concluded dep response → response.status ≡ Yes
     by empty same (inl (right, agrees, implied, says)) = ap (λ (a : ResponseValue). a.status) says
@@ -85,7 +88,7 @@ derivation_accepted schema goal looks later before after file printed response a
       content = (same ∙ said.file.content.0, said.file.content.1);
       means = said.file.means;
     } in
-    let right = (derives_law said.of printed.text said.dep).0 said.derives in
+    let right = (derives_without_mistakes said.of printed.text said.dep).0 said.derives in
     let held_derivation : IsFile (derivation_file said.of) (known_files after) file right.0 =
     record { bytes = printed.text; content = (kept, within_limit); means = right.1 } in
     judged_yes said.of right.0 said.dep response right.2 right.3

@@ -5,6 +5,7 @@ ghost use Rattle.attr_sets.specs.Attributes.{Attributes};
 ghost use Rattle.derivation.specs.Trees.{Tree};
 ghost use Rattle.dep_model.specs.Dependencies.{Dependency};
 ghost use Rattle.schema_model.specs.Schemas.{Schema};
+ghost use Rattle.derivation_grammar.specs.Lines.{DerivationLine};
 ghost use Rattle.headed_rows.specs.Headings.{HeadedRows};
 ghost use Rattle.desk_implication.specs.Bases.{GivesBasis};
 ghost use Rattle.desk_implication.specs.Certificates.{ChecksProof};
@@ -43,10 +44,10 @@ pub fn check_proof_has_one_answer()
     ensures law { (schema : Schema) (tree : Tree) (goal : List ℕ) → AllowsOne (ChecksProof schema tree goal) }
 {}
 
-/// `check derivation` has one answer to what a text derives and a goal.
+/// `check derivation` has one answer to the lines of a derivation and a goal.
 pub fn check_derivation_has_one_answer()
-    ensures law { (schema : Schema) (derived : Dependency) (goal : List ℕ)
-        → AllowsOne (ChecksDerivation schema derived goal) }
+    ensures law { (schema : Schema) (lines : List DerivationLine) (goal : List ℕ)
+        → AllowsOne (ChecksDerivation schema lines goal) }
 {}
 
 /// `cover` has one answer, and so has `cover canonical`.

@@ -19,7 +19,9 @@ use Rattle.desk_exhibits.specs.Exhibits.{Exhibits}
 use Rattle.desk_implication.specs.Bases.{GivesBasis, TellsBasis}
 use Rattle.desk_implication.specs.Certificates.{Checked, ChecksProof}
 use Rattle.desk_implication.specs.Closures.{GivesClosure, TellsClosure}
-use Rattle.desk_implication.specs.Derivations.{ChecksDerivation, DerivationChecked}
+use Rattle.derivation_grammar.specs.Lines.{DerivationLine}
+use Rattle.derivation_mistakes.specs.Mistakes.{MistakenLine}
+use Rattle.desk_implication.specs.Derivations.{ChecksDerivation, DerivationChecked, DerivationJudged}
 use Rattle.desk_implication.specs.Explanations.{ExplainsGoal, ExplainsImplication}
 use Rattle.desk_implication.specs.Implication.{Decided, DecidesGoal}
 use Rattle.desk_implication.specs.Projections.{Projects, ProjectsSet}
@@ -76,12 +78,17 @@ module _ (names : List (List ℕ)) (s : Schema) (are_names : All IsName (names_o
   pub proof_refuses : (tree : Tree) (goal : List ℕ) → RefusesSo names (ChecksProof s tree goal)
   proof_refuses tree goal = after_goal names s goal (Checked s tree) (checked tree)
 
-  derivation_checked : (derived goal : Dependency) → RefusesSo names (DerivationChecked s derived goal)
-  derivation_checked derived goal response (inl (same, implied, said)) refused = says_yes names _ response said refused
-  derivation_checked derived goal response (inr (other, said)) refused = says_no names _ response said refused
+  derivation_judged : (found : List MistakenLine) (concluded goal : Dependency)
+      → RefusesSo names (DerivationJudged s found concluded goal)
+  derivation_judged found concluded goal response (inl h) refused = says_yes names _ response h.3 refused
+  derivation_judged found concluded goal response (inr (inl h)) refused = says_no names _ response h.2 refused
+  derivation_judged found concluded goal response (inr (inr h)) refused = says_no names _ response h.1 refused
 
-  pub derivation_refuses : (derived : Dependency) (goal : List ℕ) → RefusesSo names (ChecksDerivation s derived goal)
-  derivation_refuses derived goal = after_goal names s goal (DerivationChecked s derived) (derivation_checked derived)
+  derivation_checked : (lines : List DerivationLine) (goal : Dependency) → RefusesSo names (DerivationChecked s lines goal)
+  derivation_checked lines goal response h refused = derivation_judged h.0 h.1 goal response h.4 refused
+
+  pub derivation_refuses : (lines : List DerivationLine) (goal : List ℕ) → RefusesSo names (ChecksDerivation s lines goal)
+  derivation_refuses lines goal = after_goal names s goal (DerivationChecked s lines) (derivation_checked lines)
 
   -- ---- sets
   basis_told : (x : Attributes) → RefusesSo names (TellsBasis s x)

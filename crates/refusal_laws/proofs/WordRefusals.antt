@@ -157,8 +157,8 @@ module _ (names : List (List ℕ)) (looks : Looks) (r : Reading) (s : Schema) (a
       after_proof names r file (among file (Contains-head file [])) s are_names (λ tree. ChecksProof s tree goal)
       (λ tree. proof_refuses names s are_names tree goal)
   of_task (form.check_derivation file goal) among =
-      after_derivation names r file (among file (Contains-head file [])) s are_names (λ derived. ChecksDerivation s derived goal)
-      (λ derived. derivation_refuses names s are_names derived goal)
+      after_derivation names r file (among file (Contains-head file [])) s are_names (λ lines. ChecksDerivation s lines goal)
+      (λ lines. derivation_refuses names s are_names lines goal)
   of_task (form.of_pair file other_file question) among =
       let given = among file (Contains-head file (other_file ∷ [])) in
       let other_given = among other_file (Contains-later file (other_file ∷ []) other_file (Contains-head other_file [])) in
