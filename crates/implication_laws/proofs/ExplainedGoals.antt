@@ -1,15 +1,24 @@
--- What `explain implies` answers is what `implies` answers, but for the derivation of a goal that is implied.
-use Rattle.std.proofs.Common.{◌≡◌, ◌⊎◌, ℕ, List, inl, inr, sym, ◌∙◌, refl, ap, subst}
+-- What `explain implies` answers is what `implies` answers, but for the derivation of a goal that is implied; and that
+-- `check derivation` accepts.
+use Rattle.std.proofs.Common.{◌≡◌, ◌⊎◌, ℕ, List, [], inl, inr, sym, ◌∙◌, refl, ap, subst}
 use Rattle.dep_model.specs.Dependencies.{Dependency}
+use Rattle.derivation_grammar.specs.Derivations.{Derives, LastStates}
+use Rattle.derivation_grammar.specs.Lines.{DerivationLine}
+use Rattle.derivation_grammar.proofs.DerivedLines.{one_last}
+use Rattle.derivation_mistakes.specs.Mistakes.{AreMistakenLines, MistakenLine}
+use Rattle.derivation_mistakes.proofs.MistakenLines.{derives_without_mistakes}
+use Rattle.derivation_mistakes.proofs.OneMistake.{one_list}
 use Rattle.schema_model.specs.Schemas.{Schema, ImpliedBy, names_of, naming_of}
 use Rattle.desk_arguments.specs.Goals.{IsGoal}
+use Rattle.desk_implication.specs.Derivations.{ChecksDerivation, DerivationChecked, DerivationJudged}
 use Rattle.desk_implication.specs.Explanations.{ExplainsGoal, ExplainsImplication}
 use Rattle.desk_implication.specs.Implication.{Decided, DecidesGoal}
 use Rattle.desk_responses.specs.ResponseValues.{ResponseValue}
 use Rattle.desk_responses.specs.declared.status.Status.TheVariants.{Yes, No}
+use Rattle.implication_laws.specs.AcceptedDerivations.{IsAcceptedFor}
 use Rattle.implication_laws.specs.OneAnswer.{AreBothYes}
-use Rattle.implication_laws.proofs.GoalLemmas.{goal_goes, one_goal, says-status}
-use Rattle.implication_laws.proofs.ImplyingLaws.{no_not_yes}
+use Rattle.implication_laws.proofs.GoalLemmas.{goal_goes, goal_stops-status, one_goal, says-status}
+use Rattle.implication_laws.proofs.ImplyingLaws.{no_not_yes, refused_not_yes}
 use Rattle.implication_laws.proofs.OneAnswer.{one_goal_stop}
 use Rattle.implication_laws.proofs.OneDecision.{one_decision}
 
@@ -74,3 +83,40 @@ module _ (s : Schema) (goal : List ℕ) where
             one_says_yes = explained_yes d one implied (inl (implied, first));
             other_says_yes = explained_yes d other implied second;
           })
+
+-- ---- beside `check derivation`
+-- lines of which none is wrong are answered so
+judged_yes : (s : Schema) (lines : List DerivationLine) (d : Dependency) (response : ResponseValue)
+    → AreMistakenLines s [] lines [] → LastStates lines d → DerivationChecked s lines d response → response.status ≡ Yes
+judged_yes s lines d response none last (found, concluded, are, states, judged) =
+    by (one_list s [] lines found [] are none) (one_last lines concluded d states last) judged
+  where
+    by : found ≡ [] → concluded ≡ d → DerivationJudged s found concluded d response → response.status ≡ Yes
+    by empty same (inl (right, agrees, implied, says)) = says-status Yes _ response says
+    by empty same (inr (inl (some, agrees, says))) = absurd (some empty)
+    by empty same (inr (inr (differs, says))) = absurd (differs same)
+
+derives_accepted : (s : Schema) (goal text : List ℕ) (d : Dependency) → IsGoal s goal d → Derives s text d
+    → IsAcceptedFor s goal text
+derives_accepted s goal text d is derives =
+    let right = (derives_without_mistakes s text d).0 derives in
+    (right.0, right.1, λ checked answers. accepted right.0 right.2 right.3 checked answers)
+  where
+    accepted : (lines : List DerivationLine) → AreMistakenLines s [] lines [] → LastStates lines d
+        → (checked : ResponseValue) → ChecksDerivation s lines goal checked → checked.status ≡ Yes
+    accepted lines none last checked (inl stops) = absurd (goal_goes s goal d checked is stops)
+    accepted lines none last checked (inr (e, also, rest)) =
+        judged_yes s lines d checked none last
+        (subst (λ (g : Dependency). DerivationChecked s lines g checked) (same_goal s goal e d also is) rest)
+
+-- what is printed after yes is accepted for the same goal
+pub explained_accepted : (s : Schema) (goal : List ℕ) (explained : ResponseValue) → ExplainsImplication s goal explained
+    → explained.status ≡ Yes → IsAcceptedFor s goal explained.text
+explained_accepted s goal explained (inl stops) says_yes =
+    absurd (refused_not_yes explained says_yes (goal_stops-status s goal explained stops))
+explained_accepted s goal explained (inr (d, is, inl (implied, (lines, found, says)))) says_yes =
+    derives_accepted s goal explained.text d is
+    (subst (λ (text : List ℕ). Derives s text d) (sym (ap (λ (r : ResponseValue). r.text) says)) found.derives)
+explained_accepted s goal explained (inr (d, is, inr (broken, inl (implied, found)))) says_yes = absurd (broken implied)
+explained_accepted s goal explained (inr (d, is, inr (broken, inr (also, found)))) says_yes =
+    absurd (no_not_yes explained says_yes (says-status No _ explained found.3))

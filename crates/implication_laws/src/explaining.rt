@@ -9,6 +9,8 @@ ghost use Rattle.desk_implication.specs.Explanations.{ExplainsImplication};
 ghost use Rattle.desk_implication.specs.Implication.{DecidesGoal};
 ghost use Rattle.desk_keys.specs.KeyReasons.{InEveryKey};
 ghost use Rattle.desk_responses.specs.ResponseValues.{ResponseValue};
+ghost use Rattle.desk_responses.specs.declared.status.Status.TheVariants.{Yes};
+ghost use Rattle.implication_laws.specs.AcceptedDerivations.{IsAcceptedFor};
 ghost use Rattle.implication_laws.specs.OneAnswer.{AreBothYes};
 
 /// What is in every key of a schema are exactly the attributes that all others do not determine.
@@ -27,4 +29,11 @@ pub fn explained_goals_are_decided()
     ensures one { (schema : Schema) (goal : List ℕ) (explained other : ResponseValue)
         → ExplainsImplication schema goal explained → ExplainsImplication schema goal other
         → (explained ≡ other) ⊎ AreBothYes schema goal explained other }
+{}
+
+/// What `explain implies` prints after yes is a derivation that `check derivation` accepts for the same goal.
+pub fn explained_goals_are_accepted()
+    ensures law { (schema : Schema) (goal : List ℕ) (explained : ResponseValue)
+        → ExplainsImplication schema goal explained → explained.status ≡ Yes
+        → IsAcceptedFor schema goal explained.text }
 {}
