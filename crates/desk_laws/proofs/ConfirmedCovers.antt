@@ -1,5 +1,5 @@
 -- What `cover` and `cover canonical` print is confirmed by `check cover` and `check cover canonical`.
-use Rattle.std.proofs.Common.{◌≡◌, ◌≤◌, ℕ, List, [], ◌∷◌, Some, inl, inr, ◌∙◌, subst, ap, arith}
+use Rattle.std.proofs.Common.{◌≡◌, ◌≤◌, ℕ, List, [], ◌∷◌, Some, subst, ap, arith}
 use Rattle.std.specs.Prelude.{codes, length}
 use Rattle.std.specs.List.{count_by}
 use Rattle.cover_accounts.specs.declared.diagnostic.CoverForm.{CoverForm}
@@ -19,20 +19,12 @@ use Rattle.desk_inputs.specs.FileKinds.{IsFile, WithFile}
 use Rattle.desk_inputs.specs.Inputs.{schema_file}
 use Rattle.desk_inputs.specs.Readings.{known_files}
 use Rattle.desk_outside.specs.Files.{Files, bytes_of_file}
-use Rattle.desk_responses.specs.ResponseValues.{Allowed, ResponseValue, Says}
-use Rattle.desk_responses.specs.declared.status.Status.TheVariants.{Yes}
+use Rattle.desk_responses.specs.ResponseValues.{ResponseValue, Says}
 use Rattle.desk_laws.specs.AcceptedTexts.{FitsSchemaFile, PrintedCanonicalCoverIsConfirmed, PrintedCoverIsConfirmed}
 use Rattle.desk_laws.proofs.CompleteLaws as calls
 use Rattle.desk_laws.proofs.CompleteLaws.{after_schema}
+use Rattle.desk_laws.proofs.FileLemmas.{given_there, held_again}
 use Rattle.desk_laws.proofs.QuestionLaws as questions
-use Rattle.desk_laws.proofs.StopLemmas.{schema_says}
-
--- a yes is given of the schema that is read
-given_there : (files : Files) (name : List ℕ) (gives : Schema → Allowed) (printed : ResponseValue) → printed.status ≡ Yes
-    → WithFile schema_file (known_files files) name gives printed
-    → (s : Schema) × IsFile schema_file (known_files files) name s × gives s printed
-given_there files name gives printed says_yes (inl exit) = absurd (schema_says (known_files files) name printed says_yes exit)
-given_there files name gives printed says_yes (inr found) = found
 
 -- a printed text has few dependencies where it has few lines
 few_there : (s : Schema) (ds : List Dependency) (printed : ResponseValue) → Says Yes (schema_text s ds) printed
@@ -54,11 +46,7 @@ module _ (before after : Files) (schema file : List ℕ) (s t : Schema) (printed
       (λ r. WithFile schema_file (known_files after) file (λ p. ChecksCoverForm form r p schema file)) response
       → ChecksCoverForm form s t schema file response
   checked_there form response checks =
-      let again : IsFile schema_file (known_files after) schema s = record {
-        bytes = held.bytes;
-        content = (same ∙ held.content.0, held.content.1);
-        means = held.means;
-      } in
+      let again = held_again before after schema s held same in
       let other : IsFile schema_file (known_files after) file t =
       record { bytes = printed.text; content = (kept, fits.0); means = means } in
       after_schema after file t (λ p. ChecksCoverForm form s p schema file) response other

@@ -6,9 +6,9 @@ use Rattle.dep_model.specs.Dependencies.{Dependency}
 use Rattle.schema_model.specs.Schemas.{Schema}
 use Rattle.derivation_grammar.specs.Lines.{DerivationLine}
 use Rattle.derivation_mistakes.specs.Mistakes.{MistakenLine}
-use Rattle.desk_arguments.specs.Goals.{IsGoal, WithGoal}
+use Rattle.desk_arguments.specs.Goals.{IsGoal}
 use Rattle.desk_cli.specs.Performs.{Answers, Performs, Does}
-use Rattle.desk_implication.specs.Derivations.{DerivationChecked, DerivationJudged}
+use Rattle.desk_implication.specs.Derivations.{ChecksDerivation, DerivationChecked, DerivationJudged}
 use Rattle.desk_inputs.specs.FileKinds.{IsFile, WithFile}
 use Rattle.desk_inputs.specs.Inputs.{derivation_file, schema_file}
 use Rattle.desk_inputs.specs.Readings.{known_files}
@@ -34,24 +34,22 @@ checked_says r lines goal response (found, concluded, are, last, judged) = judge
 derivation_asks : (files : Files) (name file goal : List ℕ) (looks : Looks) (response : ResponseValue)
     → Answers looks (known_files files) (codes "check" ∷ codes "derivation" ∷ name ∷ file ∷ goal ∷ []) response
     → WithFile schema_file (known_files files) name
-    (λ r. WithFile (derivation_file r) (known_files files) file (λ ls. WithGoal r goal (DerivationChecked r ls))) response
+    (λ r. WithFile (derivation_file r) (known_files files) file (λ ls. ChecksDerivation r ls goal)) response
 unfolding form_of form_over_schema after_check schema_and_two Performs Does
 derivation_asks files name file goal looks response answered = answered
 
--- the same schema, derivation and goal are read, and the answer is one to them
+-- the schema and the derivation are read, and the answer is one to them
 pub after_derivation : (files : Files) (name file goal : List ℕ) (looks : Looks) (schema : Schema)
-    (lines : List DerivationLine) (dep : Dependency) (response : ResponseValue)
-    → IsFile schema_file (known_files files) name schema
-    → IsFile (derivation_file schema) (known_files files) file lines → IsGoal schema goal dep
+    (lines : List DerivationLine) (response : ResponseValue) → IsFile schema_file (known_files files) name schema
+    → IsFile (derivation_file schema) (known_files files) file lines
     → Answers looks (known_files files) (codes "check" ∷ codes "derivation" ∷ name ∷ file ∷ goal ∷ []) response
-    → DerivationChecked schema lines dep response
-after_derivation files name file goal looks schema lines dep response held_schema held_derivation is answered =
-    after_goal schema goal dep (DerivationChecked schema lines) response is
-    (after_file files file (derivation_file schema) (derivation_text_once schema) lines
-    (λ ls. WithGoal schema goal (DerivationChecked schema ls)) response held_derivation
+    → ChecksDerivation schema lines goal response
+after_derivation files name file goal looks schema lines response held_schema held_derivation answered =
+    after_file files file (derivation_file schema) (derivation_text_once schema) lines
+    (λ ls. ChecksDerivation schema ls goal) response held_derivation
     (after_schema files name schema
-    (λ r. WithFile (derivation_file r) (known_files files) file (λ ls. WithGoal r goal (DerivationChecked r ls))) response held_schema
-    (derivation_asks files name file goal looks response answered)))
+    (λ r. WithFile (derivation_file r) (known_files files) file (λ ls. ChecksDerivation r ls goal)) response held_schema
+    (derivation_asks files name file goal looks response answered))
 
 pub derivation_answered : (files : Files) (name file goal : List ℕ) (schema : Schema) (lines : List DerivationLine)
     (dep : Dependency) → IsFile schema_file (known_files files) name schema
@@ -59,4 +57,5 @@ pub derivation_answered : (files : Files) (name file goal : List ℕ) (schema : 
     → IsAnswered files (codes "check" ∷ codes "derivation" ∷ name ∷ file ∷ goal ∷ [])
 derivation_answered files name file goal schema lines dep held_schema held_derivation is looks response answered =
     checked_says schema lines dep response
-    (after_derivation files name file goal looks schema lines dep response held_schema held_derivation is answered)
+    (after_goal schema goal dep (DerivationChecked schema lines) response is
+    (after_derivation files name file goal looks schema lines response held_schema held_derivation answered))

@@ -1,5 +1,6 @@
 pub mod AcceptedLaws
 pub mod StopLemmas
+mod FileLemmas
 pub mod CompleteLaws
 pub mod TableLaws
 mod FormLaws

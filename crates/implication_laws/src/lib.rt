@@ -29,7 +29,10 @@ pub use discovering::found_texts_mean_their_schema;
 pub use exhibiting::{
     exhibits_are_legal, exhibits_decide_goals, rules_of_exhibits_are_answered_alike,
 };
-pub use explaining::{explained_goals_are_decided, undetermined_attributes_are_in_every_key};
+pub use explaining::{
+    explained_goals_are_accepted, explained_goals_are_decided,
+    undetermined_attributes_are_in_every_key,
+};
 pub use implying::{
     accepted_goals_are_implied, legal_rows_obey_implied_goals, yes_and_no_exclude_each_other,
 };
