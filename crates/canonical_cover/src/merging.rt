@@ -30,7 +30,7 @@ pub fn merge_left_sides(alloc: Global, deps: &[Dep]) -> Result<Vec<Dep>, OutOfMe
 // Whether a dependency is a functional one whose left side a functional one of a list has.
 fn is_merged(deps: &[Dep], dep: Dep) -> bool
     ensures merged { result
-        ≡ list_any (λ other. have_same_left other (dependency_of dep)) (dependencies_of deps.now) }
+        ≡ list_any (λ other. have_same_left (dependency_of other) (dependency_of dep)) deps.now }
 {
     deps.iter().any(|other| have_same_left(*other, dep))
 }

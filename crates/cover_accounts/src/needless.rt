@@ -1,6 +1,7 @@
 ghost use Rattle.std.specs.Prelude.{◌≡◌, ◌↔◌, ◌+◌, ◌<◌, length, slice_get, Some, IsTrue, IfOk};
+ghost use Rattle.attr_sets.specs.Sets.{attributes};
 ghost use Rattle.attr_sets.specs.declared.set.TheConstants.{MOST_ATTRIBUTES};
-ghost use Rattle.dep_model.specs.Dependencies.{Dependency};
+ghost use Rattle.dep_model.specs.Dependencies.{Dependency, fd};
 ghost use Rattle.dep_model.specs.Deps.{dependency_of, IsDepWithin};
 ghost use Rattle.dep_model.specs.Theories.{deps_of, width_of, universe_of, theory_of};
 ghost use Rattle.cover_accounts.specs.declared.diagnostic.CoverForm.{CoverForm};

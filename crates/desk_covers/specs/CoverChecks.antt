@@ -1,6 +1,6 @@
 -- Whether a schema is a minimal or a canonical cover of another, and what keeps it from being one: for
 -- `check cover` and `check cover canonical`.
-use Rattle.std.specs.Prelude.{◌≡◌, ◌⊎◌, ℕ, List, [], ◌++◌, codes, slice_get, if◌then◌else◌}
+use Rattle.std.specs.Prelude.{◌≡◌, ◌⊎◌, ℕ, Bool, true, false, List, [], ◌++◌, codes, slice_get}
 use Rattle.std.specs.List.{flat_map, list_all}
 use Rattle.attr_sets.specs.Attributes.{only}
 use Rattle.cover_accounts.specs.CoverDiagnostics.{AreCoverDiagnostics}
@@ -43,15 +43,16 @@ diagnostic_text schema (Follows k) = line (placed_dep_text schema k ++ codes " f
 abbrev pub diagnostics_text : Schema → List CoverDiagnostic → List ℕ
 diagnostics_text schema found = flat_map (diagnostic_text schema) found
 
--- what is said where nothing is wrong: beside a multivalued dependency a functional one may still follow
--- from both kinds, so each kind is such a cover by itself
+-- what is said where nothing is wrong; beside a multivalued dependency a functional one may still follow from
+-- both kinds, so each kind is such a cover by itself
+abbrev pub form_words : CoverForm → Bool → List ℕ
+form_words Minimal true = codes "equivalent and minimal"
+form_words Minimal false = codes "equivalent, and minimal by kind"
+form_words Canonical true = codes "equivalent and canonical"
+form_words Canonical false = codes "equivalent, and canonical by kind"
+
 abbrev pub form_text : CoverForm → Schema → List ℕ
-form_text Minimal schema =
-    if list_all is_fd (theory_of schema) then line (codes "equivalent and minimal")
-    else line (codes "equivalent, and minimal by kind")
-form_text Canonical schema =
-    if list_all is_fd (theory_of schema) then line (codes "equivalent and canonical")
-    else line (codes "equivalent, and canonical by kind")
+form_text form schema = line (form_words form (list_all is_fd (theory_of schema)))
 
 -- ---- answers
 -- yes exactly where nothing keeps a schema from being a cover of a form; else no, with all that does

@@ -1,7 +1,7 @@
 ghost use Rattle.std.specs.Prelude.{◌≡◌, ◌<◌, All, IfOk};
 ghost use Rattle.attr_sets.specs.declared.set.TheConstants.{MOST_ATTRIBUTES};
 ghost use Rattle.cover_accounts.specs.CoverDiagnostics.{NamesAttribute};
-ghost use Rattle.desk_covers.specs.CoverChecks.{ChecksCanonicalCover, ChecksCover, ChecksCoverForm, TestsCover, TestsForm, diagnostic_text, diagnostics_text, form_text, not_needed_text, placed_dep_text};
+ghost use Rattle.desk_covers.specs.CoverChecks.{ChecksCanonicalCover, ChecksCover, ChecksCoverForm, TestsCover, TestsForm, diagnostic_text, diagnostics_text, form_text, form_words, not_needed_text, placed_dep_text};
 ghost use Rattle.desk_responses.specs.Responses.{response_value, RespondsAs};
 ghost use Rattle.schema_match.specs.Columns.{SameNames};
 
@@ -103,14 +103,18 @@ fn test_form(alloc: Global, form: CoverForm, schema: &Schema) -> Result<Response
 fn form_line(alloc: Global, form: CoverForm, schema: &Schema) -> Result<Vec<u8>, OutOfMemory>
     ensures text { IfOk result (λ text. text.items ≡ form_text form schema.now) }
 {
-    let by_kind = !is_functional(schema.deps());
-    match (form, by_kind) {
-        (CoverForm::Minimal, false) => line_of(alloc, b"equivalent and minimal", b"", b""),
-        (CoverForm::Minimal, true) => line_of(alloc, b"equivalent, and minimal by kind", b"", b""),
-        (CoverForm::Canonical, false) => line_of(alloc, b"equivalent and canonical", b"", b""),
-        (CoverForm::Canonical, true) => {
-            line_of(alloc, b"equivalent, and canonical by kind", b"", b"")
-        }
+    let words = form_words(form, is_functional(schema.deps()));
+    line_of(alloc, words, b"", b"")
+}
+
+fn form_words(form: CoverForm, functional: bool) -> &'static [u8]
+    ensures words { result.now ≡ form_words form functional }
+{
+    match (form, functional) {
+        (CoverForm::Minimal, true) => b"equivalent and minimal",
+        (CoverForm::Minimal, false) => b"equivalent, and minimal by kind",
+        (CoverForm::Canonical, true) => b"equivalent and canonical",
+        (CoverForm::Canonical, false) => b"equivalent, and canonical by kind",
     }
 }
 

@@ -9,6 +9,8 @@ mod AlikeLaws
 mod CoverLaws
 mod PartedLists
 mod MinimalLaws
+mod CanonicalLaws
+mod ConfirmedLaws
 mod ExhibitLaws
 mod FoundLaws
 mod WrittenSchemas

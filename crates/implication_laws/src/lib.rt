@@ -3,8 +3,9 @@
 //! Each law is a function that does nothing, whose clause is the law; so the gate asks for its
 //! proof.
 //!
-//! Promises: what one answer says another confirms; `check cover` says yes to minimal covers alone; each
-//! command on implication has one answer, but for the derivation of a goal.
+//! Promises: what one answer says another confirms; `check cover` says yes to minimal covers alone, and
+//! `check cover canonical` to canonical ones alone; each command on implication has one answer, but for the
+//! derivation of a goal.
 #![tactic(auto)]
 
 mod answering;
@@ -24,7 +25,7 @@ pub use answering::{
     discover_small_has_one_answer, exhibit_has_one_answer, explanations_have_one_answer,
     implies_has_one_answer, keys_has_one_answer, project_has_one_answer,
 };
-pub use covering::minimal_covers_are_confirmed;
+pub use covering::{canonical_covers_are_confirmed, minimal_covers_are_confirmed};
 pub use discovering::found_texts_mean_their_schema;
 pub use exhibiting::{
     exhibits_are_legal, exhibits_decide_goals, rules_of_exhibits_are_answered_alike,
@@ -41,6 +42,6 @@ pub use rewriting::{
     same_legal_relations_are_answered_alike,
 };
 pub use uniqueness::{
-    one_basis, one_fixed_cover, one_fixed_whole_cover, one_greedy_key, one_list_of_differences,
-    one_list_of_keys, one_list_of_rules, one_refutation,
+    one_basis, one_fixed_canonical_cover, one_fixed_cover, one_fixed_whole_cover, one_greedy_key,
+    one_list_of_differences, one_list_of_keys, one_list_of_rules, one_refutation,
 };

@@ -7,5 +7,5 @@ use Rattle.cover_accounts.proofs.checking.diagnostics.Goals as goal
 pub returns-clause-attributes : goal.returns-clause-attributes
 returns-clause-attributes c = λ i one low.
     let s = c.args.theory.now in
-    names_attribute (width_of s) (theory_of s) _ (schema_narrow s) (schema_within s)
+    names_attribute c.args.form (width_of s) (theory_of s) _ (schema_narrow s) (schema_within s)
     (c.loop-k.invariant.each _ (Contains-get_or c.loop-k.found.items i one low))

@@ -1,4 +1,4 @@
--- What is left to prove of `is_not_needed`: what it answers of an attribute of a left side.
+-- What is left to prove of `is_not_needed_on_left`: what it answers of an attribute of a left side.
 use Rattle.std.proofs.Common.{◌↔◌, List, sym, ap, subst, ◌∙◌, arith}
 use Rattle.std.specs.Prelude.{All, IsTrue}
 use Rattle.attr_sets.specs.Attributes.{Attributes, only, difference, IsSubset}
@@ -8,7 +8,7 @@ use Rattle.dep_model.specs.Dependencies.{fd, functional_part}
 use Rattle.dep_model.specs.Deps.{dependencies_of, IsDepWithin}
 use Rattle.dep_model.specs.Implication.{Implies}
 use Rattle.dep_model.specs.Theories.{width_of, universe_of, theory_of}
-use Rattle.cover_accounts.proofs.checking.is_not_needed.Goals as goal
+use Rattle.cover_accounts.proofs.needless.is_not_needed_on_left.Goals as goal
 
 pub returns-then-contains : goal.returns-then-contains
 returns-then-contains c =
