@@ -6,9 +6,12 @@ use Rattle.std.proofs.lemmas.List.{length-map}
 use Rattle.std.proofs.lemmas.List.Elements.{All-filter}
 use Rattle.std.proofs.lemmas.List.Sums.{sum_by-append}
 use Rattle.attr_sets.specs.Attributes.{below}
-use Rattle.canonical_cover.specs.Canonical.{IsFixedCanonicalCover}
+use Rattle.canonical_cover.specs.Canonical.{IsCanonicalCover, IsFixedCanonicalCover}
 use Rattle.canonical_cover.proofs.MergeLemmas.{merged_within}
+use Rattle.cover_accounts.specs.declared.diagnostic.CoverForm.{CoverForm}
+use Rattle.cover_accounts.specs.declared.diagnostic.CoverForm.TheVariants.{Canonical, Minimal}
 use Rattle.dep_model.specs.Dependencies.{Dependency, IsWithin, functional_part, is_fd}
+use Rattle.dep_model.specs.Implication.{Implies}
 use Rattle.dep_model.proofs.DepLemmas.{dependencies_all-from}
 use Rattle.min_cover.specs.Covers.{HaveSameLegal, IsFixedWholeCover, IsMinimalCover, IsWholeCover, multivalued_part}
 use Rattle.min_cover.proofs.CoverLemmas.{thinned_all}
@@ -23,13 +26,14 @@ use Rattle.schema_printer.specs.Printing.{dependency_text, lines_text, schema_li
 use Rattle.schema_printer.specs.Spelling.{printed_names_of}
 use Rattle.schema_match.specs.Carried.{HaveSameLegalRelations}
 use Rattle.schema_match.specs.Columns.{SameNames}
-use Rattle.desk_covers.specs.CoverChecks.{ChecksCanonicalCover, ChecksCover}
+use Rattle.desk_covers.specs.CoverChecks.{ChecksCanonicalCover, ChecksCover, ChecksCoverForm}
 use Rattle.desk_covers.specs.Covering.{GivesCanonicalCover, GivesCover}
 use Rattle.desk_responses.specs.ResponseValues.{ResponseValue, Says}
 use Rattle.desk_responses.specs.declared.status.Status.TheVariants.{Yes}
+use Rattle.implication_laws.specs.Minimality.{IsCoverByKind}
 use Rattle.implication_laws.specs.Rewriting.{IsRewritten, MeansConfirmed}
 use Rattle.implication_laws.proofs.AlikeLaws.{alike}
-use Rattle.implication_laws.proofs.MinimalLaws.{said_yes}
+use Rattle.implication_laws.proofs.ConfirmedLaws.{yes-from}
 use Rattle.implication_laws.proofs.SameNamesLemmas.{same_names}
 use Rattle.implication_laws.proofs.WrittenSchemas.{written_means}
 
@@ -69,81 +73,100 @@ of_rewritten P s t ds is holds =
     subst (λ (es : List Dependency). P (width_of t) es) (sym is.named.theory)
     (subst (λ (names : List (List ℕ)). P (length names) ds) is.named.names holds)
 
--- the functional part of a whole cover is a minimal cover of itself
-abbrev IsMinimalAlone : ℕ → List Dependency → Type 0
-IsMinimalAlone n ds = IsMinimalCover n ds (functional_part ds) × IsWholeCover n ds ds
+-- its functional dependencies are a cover of a form of themselves, and no multivalued one follows from the rest
+abbrev IsCoverAlone : CoverForm → ℕ → List Dependency → Type 0
+IsCoverAlone Minimal n ds = IsMinimalCover n ds (functional_part ds) × IsWholeCover n ds ds
+IsCoverAlone Canonical n ds = IsCanonicalCover n ds (functional_part ds) × IsWholeCover n ds ds
+
+by_kind : (form : CoverForm) (t : Schema) → IsCoverAlone form (width_of t) (theory_of t) → IsCoverByKind form t
+by_kind Minimal t alone = record { functional = alone.0; multivalued = alone.1 }
+by_kind Canonical t alone = record { functional = alone.0; multivalued = alone.1 }
+
+same_itself : (n : ℕ) (ds : List Dependency) → HaveSameLegal n ds ds
+same_itself n ds r = ((λ legal. legal), (λ legal. legal))
+
+whole_alone : (n : ℕ) (ds whole : List Dependency) → IsWholeCover n ds whole → IsWholeCover n whole whole
+whole_alone n ds whole covers = record { same_legal = same_itself n whole; needed = covers.needed }
+
+-- what a cover implies the dependencies imply
+implied_back : (n : ℕ) (es ds : List Dependency) (d : Dependency) → HaveSameLegal n es ds → Implies n es d → Implies n ds d
+implied_back n es ds d same implied = λ r legal. implied r ((same r).1 legal)
 
 minimal_alone : (n : ℕ) (ds whole : List Dependency) → IsMinimalCover n ds (functional_part whole) → IsWholeCover n ds whole
-    → IsMinimalAlone n whole
-minimal_alone n ds whole minimal covers = (
-  record {
-    single = minimal.single;
-    same_legal = λ r. ((λ legal. legal), (λ legal. legal));
-    needed = minimal.needed;
-    short = λ d has i left implied.
-        minimal.short d has i left (λ r legal. implied r ((minimal.same_legal r).1 legal));
-  },
-  record { same_legal = λ r. ((λ legal. legal), (λ legal. legal)); needed = covers.needed },
-)
-
--- a text means such a schema, where its lines suffice
-printed_means : (text : List ℕ) (s : Schema) (ds : List Dependency) (printed : ResponseValue)
-    → MeansSchema text (declarations_of s) → All (IsWithin (universe_of s)) ds → Says Yes (schema_text s ds) printed
-    → length ds ≤ MOST_DEPENDENCY_LINES
-    → (t : Schema) × IsRewritten s ds t × MeansSchema printed.text (declarations_of t)
-printed_means text s ds printed means within says few =
-    let found = written_means s ds within few (declared_read_back text (declarations_of s) means) in (
-      found.0,
-      found.1,
-      subst (λ (bytes : List ℕ). MeansSchema bytes (declarations_of found.0))
-          (sym (ap (λ (r : ResponseValue). r.text) says)) found.2,
+    → IsCoverAlone Minimal n whole
+minimal_alone n ds whole minimal covers =
+    let part = functional_part whole in (
+      record {
+        single = minimal.single;
+        same_legal = same_itself n part;
+        needed = minimal.needed;
+        short = λ d has i left implied.
+            minimal.short d has i left (implied_back n part (functional_part ds) _ minimal.same_legal implied);
+      },
+      whole_alone n ds whole covers,
     )
+
+canonical_alone : (n : ℕ) (ds cover : List Dependency) → IsCanonicalCover n ds (functional_part cover) → IsWholeCover n ds cover
+    → IsCoverAlone Canonical n cover
+canonical_alone n ds cover canonical covers =
+    let part = functional_part cover in (
+      record {
+        functional = canonical.functional;
+        same_legal = same_itself n part;
+        once = canonical.once;
+        some_right = canonical.some_right;
+        short_left = λ d has i left implied.
+            canonical.short_left d has i left (implied_back n part (functional_part ds) _ canonical.same_legal implied);
+        short_right = canonical.short_right;
+      },
+      whole_alone n ds cover covers,
+    )
+
+-- a printed text means such a schema, where its lines suffice, and the check says yes to it
+module _ (form : CoverForm) (text : List ℕ) (s : Schema) (ds : List Dependency) (printed : ResponseValue)
+    (means : MeansSchema text (declarations_of s)) (within : All (IsWithin (universe_of s)) ds)
+    (same : HaveSameLegal (width_of s) ds (theory_of s)) (alone : IsCoverAlone form (width_of s) ds)
+    (says : Says Yes (schema_text s ds) printed) where
+  confirmed : length ds ≤ MOST_DEPENDENCY_LINES → MeansConfirmed (ChecksCoverForm form) s ds printed.text
+  confirmed few =
+      let found = written_means s ds within few (declared_read_back text (declarations_of s) means) in
+      let t = found.0 in (
+        t,
+        found.1,
+        subst (λ (bytes : List ℕ). MeansSchema bytes (declarations_of t))
+            (sym (ap (λ (r : ResponseValue). r.text) says)) found.2,
+        λ file other_file response checks. yes-from form s t file other_file response checks (
+          names_stay s t ds found.1 same,
+          legal_stay s t ds found.1 same,
+          by_kind form t (of_rewritten (IsCoverAlone form) s t ds found.1 alone),
+        ),
+      )
 
 pub cover_confirmed : (text : List ℕ) (s : Schema) (printed : ResponseValue) → MeansSchema text (declarations_of s)
     → GivesCover s printed
     → (whole : List Dependency) × Says Yes (schema_text s whole) printed
     × (length whole ≤ MOST_DEPENDENCY_LINES → MeansConfirmed ChecksCover s whole printed.text)
-cover_confirmed text s printed means (whole, fixed, minimal, covers, says) = (whole, says, confirmed)
-  where
-    confirmed : length whole ≤ MOST_DEPENDENCY_LINES → MeansConfirmed ChecksCover s whole printed.text
-    confirmed few =
-        let n = width_of s in
-        let ds = theory_of s in
-        let found = printed_means text s whole printed means (whole_within n ds whole (theory_within s) fixed) says few in
-        let t = found.0 in
-        let alone = of_rewritten IsMinimalAlone s t whole found.1 (minimal_alone n ds whole minimal covers) in (
-          t,
-          found.1,
-          found.2,
-          λ file other_file response checks. (said_yes s t file other_file response checks).1 (
-            names_stay s t whole found.1 covers.same_legal,
-            legal_stay s t whole found.1 covers.same_legal,
-            record { functional = alone.0; multivalued = alone.1 },
-          ),
-        )
+cover_confirmed text s printed means (whole, fixed, minimal, covers, says) =
+    let n = width_of s in
+    let ds = theory_of s in (
+      whole,
+      says,
+      confirmed Minimal text s whole printed means (whole_within n ds whole (theory_within s) fixed) covers.same_legal
+          (minimal_alone n ds whole minimal covers) says,
+    )
 
 pub canonical_confirmed : (text : List ℕ) (s : Schema) (printed : ResponseValue) → MeansSchema text (declarations_of s)
     → GivesCanonicalCover s printed
     → (cover : List Dependency) × Says Yes (schema_text s cover) printed
     × (length cover ≤ MOST_DEPENDENCY_LINES → MeansConfirmed ChecksCanonicalCover s cover printed.text)
-canonical_confirmed text s printed means (cover, fixed, canonical, covers, says) = (cover, says, confirmed)
-  where
-    confirmed : length cover ≤ MOST_DEPENDENCY_LINES → MeansConfirmed ChecksCanonicalCover s cover printed.text
-    confirmed few =
-        let n = width_of s in
-        let ds = theory_of s in
-        let found = printed_means text s cover printed means (canonical_within s cover fixed) says few in
-        let t = found.0 in
-        let alone = of_rewritten IsCanonicalAlone s t cover found.1 (canonical_alone n ds cover canonical covers) in (
-          t,
-          found.1,
-          found.2,
-          λ file other_file response checks. (canonical_said_yes s t file other_file response checks).1 (
-            names_stay s t cover found.1 covers.same_legal,
-            legal_stay s t cover found.1 covers.same_legal,
-            record { functional = alone.0; multivalued = alone.1 },
-          ),
-        )
+canonical_confirmed text s printed means (cover, fixed, canonical, covers, says) =
+    let n = width_of s in
+    let ds = theory_of s in (
+      cover,
+      says,
+      confirmed Canonical text s cover printed means (canonical_within s cover fixed) covers.same_legal
+          (canonical_alone n ds cover canonical covers) says,
+    )
 
 -- ---- lines
 -- a text of lines has a line feed for each
