@@ -5,12 +5,12 @@ use Rattle.std.specs.Prelude.{All, if◌then◌else◌, map, not}
 use Rattle.std.proofs.lemmas.List.{length-map}
 use Rattle.std.proofs.lemmas.List.Elements.{All-filter}
 use Rattle.std.proofs.lemmas.List.Sums.{sum_by-append}
-use Rattle.attr_sets.specs.Attributes.{below}
+use Rattle.attr_sets.specs.Attributes.{below, difference, only}
 use Rattle.canonical_cover.specs.Canonical.{IsCanonicalCover, IsFixedCanonicalCover}
 use Rattle.canonical_cover.proofs.MergeLemmas.{merged_within}
 use Rattle.cover_accounts.specs.declared.diagnostic.CoverForm.{CoverForm}
 use Rattle.cover_accounts.specs.declared.diagnostic.CoverForm.TheVariants.{Canonical, Minimal}
-use Rattle.dep_model.specs.Dependencies.{Dependency, IsWithin, functional_part, is_fd}
+use Rattle.dep_model.specs.Dependencies.{Dependency, IsWithin, fd, functional_part, is_fd, left_of, right_of}
 use Rattle.dep_model.specs.Implication.{Implies}
 use Rattle.dep_model.proofs.DepLemmas.{dependencies_all-from}
 use Rattle.min_cover.specs.Covers.{HaveSameLegal, IsFixedWholeCover, IsMinimalCover, IsWholeCover, multivalued_part}
@@ -92,6 +92,10 @@ whole_alone n ds whole covers = record { same_legal = same_itself n whole; neede
 implied_back : (n : ℕ) (es ds : List Dependency) (d : Dependency) → HaveSameLegal n es ds → Implies n es d → Implies n ds d
 implied_back n es ds d same implied = λ r legal. implied r ((same r).1 legal)
 
+-- a dependency without an attribute of its left side
+abbrev without_left : Dependency → ℕ → Dependency
+without_left d i = fd (difference (left_of d) (only i)) (right_of d)
+
 minimal_alone : (n : ℕ) (ds whole : List Dependency) → IsMinimalCover n ds (functional_part whole) → IsWholeCover n ds whole
     → IsCoverAlone Minimal n whole
 minimal_alone n ds whole minimal covers =
@@ -101,7 +105,7 @@ minimal_alone n ds whole minimal covers =
         same_legal = same_itself n part;
         needed = minimal.needed;
         short = λ d has i left implied.
-            minimal.short d has i left (implied_back n part (functional_part ds) _ minimal.same_legal implied);
+            minimal.short d has i left (implied_back n part (functional_part ds) (without_left d i) minimal.same_legal implied);
       },
       whole_alone n ds whole covers,
     )
@@ -116,7 +120,7 @@ canonical_alone n ds cover canonical covers =
         once = canonical.once;
         some_right = canonical.some_right;
         short_left = λ d has i left implied.
-            canonical.short_left d has i left (implied_back n part (functional_part ds) _ canonical.same_legal implied);
+            canonical.short_left d has i left (implied_back n part (functional_part ds) (without_left d i) canonical.same_legal implied);
         short_right = canonical.short_right;
       },
       whole_alone n ds cover covers,
