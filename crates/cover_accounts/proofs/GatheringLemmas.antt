@@ -31,7 +31,7 @@ right_low : (n : ℕ) (ds : List Dependency) (k : ℕ) (d : Dependency) (a : ℕ
 right_low n ds k (fd x y) a within is = ltb-true a n (within.1 a is.0)
 right_low n ds k (mvd x y) a within is = absurd is
 
-read_within : (n : ℕ) (ds : List Dependency) (k : ℕ) (d : Dependency) → All (IsWithin (below n)) ds → slice_get ds k ≡ Some d → IsWithin (below n) d
+pub read_within : (n : ℕ) (ds : List Dependency) (k : ℕ) (d : Dependency) → All (IsWithin (below n)) ds → slice_get ds k ≡ Some d → IsWithin (below n) d
 read_within n ds k d within read =
     subst (IsWithin (below n)) (get_or_from_slice_get ds k d d read) (within k d (slice_get_within ds k d read))
 

@@ -1,7 +1,8 @@
 -- What is left to prove of `add_not_needed_on_left`: what `is_not_needed_on_left` requires, and that a round of its loop
--- keeps the invariant.
+-- keeps the invariant, which is in the end what it ensures.
 use Rattle.std.proofs.Common.{◌≡◌, ℕ, ◌+◌, List, refl, sym, ap, subst, ◌∙◌, arith}
 use Rattle.std.proofs.lemmas.Bool.{false≢true}
+use Rattle.attr_sets.specs.declared.set.TheConstants.{MOST_ATTRIBUTES}
 use Rattle.dep_model.specs.declared.dep.Dep.{Dep}
 use Rattle.dep_model.specs.declared.dep.Dep.TheVariants.{Fd}
 use Rattle.dep_model.specs.Theories.{width_of, theory_of}
@@ -42,3 +43,12 @@ loop-attribute-preserved c = λ form before.
           (no_such_left form n ds k a _ c.loop-attribute-test.true read
           (λ is. false≢true (sym w.if-is_not_needed_on_left.false ∙ c.is_not_needed_on_left.ensures.not_needed.1 is)))))
     ]
+
+pub returns : goal.returns
+returns c = record {
+  before = λ form before.
+      let s = c.args.theory.now in
+      let end : 1 + c.loop-attribute.attribute ≡ 1 + MOST_ATTRIBUTES = omega (arith, c.loop-attribute-test.false, c.loop-attribute.auto.attribute-end) in
+      subst (λ (r : ℕ). AreCoverDiagnosticsBefore form (width_of s) (theory_of s) c.args.k r c.loop-attribute.found.items) end
+      (c.loop-attribute.invariant form before);
+}
