@@ -1,4 +1,5 @@
+pub mod MistakenLines
 pub mod MisuseLemmas
 pub mod OneMistake
+pub mod Outcomes
 pub mod ReasonLemmas
-pub mod MistakenLines

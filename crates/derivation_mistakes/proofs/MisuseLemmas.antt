@@ -44,84 +44,83 @@ none_of_two before w u right also m (inr (same, inr later)) = absurd later.1
 module _ (s : Schema) (before : List Dependency) (stated : Dependency) (body : DerivationBody) (kind : FaultKind)
     (gives : outcome_of_line s before stated body ≡ Some (Err kind))
   where
+    pub first_wrong : (w : Wanted) (ws : List Wanted) → wanted_by before body ≡ w ∷ ws → (kind_at before w.line ≡ w.kind → ⊥)
+        → IsMisuse s before stated body (AnotherKind w.line)
+    first_wrong w ws wanted other = record {
+      kind = kind;
+      gives_nothing = gives;
+      hinders = subst (λ (all : List Wanted). IsFirstOfAnotherKind before all w.line) (sym wanted) (inl (other, refl));
+      first = λ c h. omega arith;
+    }
 
-  pub first_wrong : (w : Wanted) (ws : List Wanted) → wanted_by before body ≡ w ∷ ws → (kind_at before w.line ≡ w.kind → ⊥)
-      → IsMisuse s before stated body (AnotherKind w.line)
-  first_wrong w ws wanted other = record {
-    kind = kind;
-    gives_nothing = gives;
-    hinders = subst (λ (all : List Wanted). IsFirstOfAnotherKind before all w.line) (sym wanted) (inl (other, refl));
-    first = λ c h. omega arith;
-  }
+    pub second_wrong : (w u : Wanted) (ws : List Wanted) → wanted_by before body ≡ w ∷ u ∷ ws
+        → kind_at before w.line ≡ w.kind → (kind_at before u.line ≡ u.kind → ⊥)
+        → IsMisuse s before stated body (AnotherKind u.line)
+    second_wrong w u ws wanted right other = record {
+      kind = kind;
+      gives_nothing = gives;
+      hinders = subst (λ (all : List Wanted). IsFirstOfAnotherKind before all u.line) (sym wanted) (inr (right, inl (other, refl)));
+      first = λ c h. omega arith;
+    }
 
-  pub second_wrong : (w u : Wanted) (ws : List Wanted) → wanted_by before body ≡ w ∷ u ∷ ws
-      → kind_at before w.line ≡ w.kind → (kind_at before u.line ≡ u.kind → ⊥)
-      → IsMisuse s before stated body (AnotherKind u.line)
-  second_wrong w u ws wanted right other = record {
-    kind = kind;
-    gives_nothing = gives;
-    hinders = subst (λ (all : List Wanted). IsFirstOfAnotherKind before all u.line) (sym wanted) (inr (right, inl (other, refl)));
-    first = λ c h. omega arith;
-  }
+    -- the same, as the code names them
+    pub first_of_two : (b : Bool) (w u : Wanted) → wanted_by before body ≡ w ∷ u ∷ [] → b ≡ false
+        → (kind_at before w.line ≡ w.kind → ⊥) → IsMisuse s before stated body (second_if b w.line u.line)
+    first_of_two b w u wanted is other = rw is (first_wrong w (u ∷ []) wanted other)
 
-  -- the same, as the code names them
-  pub first_of_two : (b : Bool) (w u : Wanted) → wanted_by before body ≡ w ∷ u ∷ [] → b ≡ false
-      → (kind_at before w.line ≡ w.kind → ⊥) → IsMisuse s before stated body (second_if b w.line u.line)
-  first_of_two b w u wanted is other = rw is (first_wrong w (u ∷ []) wanted other)
+    pub second_of_two : (b : Bool) (w u : Wanted) → wanted_by before body ≡ w ∷ u ∷ [] → b ≡ true
+        → kind_at before w.line ≡ w.kind → (kind_at before u.line ≡ u.kind → ⊥)
+        → IsMisuse s before stated body (second_if b w.line u.line)
+    second_of_two b w u wanted is right other = rw is (second_wrong w u [] wanted right other)
 
-  pub second_of_two : (b : Bool) (w u : Wanted) → wanted_by before body ≡ w ∷ u ∷ [] → b ≡ true
-      → kind_at before w.line ≡ w.kind → (kind_at before u.line ≡ u.kind → ⊥)
-      → IsMisuse s before stated body (second_if b w.line u.line)
-  second_of_two b w u wanted is right other = rw is (second_wrong w u [] wanted right other)
+    pub side_wrong : (why : Misuse) → misuse_rank why ≤ 1 → Hinders s before stated body why
+        → ((m : ℕ) → IsFirstOfAnotherKind before (wanted_by before body) m → ⊥) → IsMisuse s before stated body why
+    side_wrong why low hinders none = record { kind = kind; gives_nothing = gives; hinders = hinders; first = at_least }
+      where
+        at_least : (other : Misuse) → Hinders s before stated body other → misuse_rank why ≤ misuse_rank other
+        at_least (AnotherKind m) h = absurd (none m h)
+        at_least (NotTheLeftSide m k) h = low
+        at_least (LeftSidesDiffer m k) h = low
+        at_least (NotWithinLeftSide m k) h = low
+        at_least (AnotherLeftSide m) h = low
+        at_least (NotWithinRightSide m) h = omega (arith, low)
+        at_least (Fault other) h = omega (arith, low)
 
-  pub side_wrong : (why : Misuse) → misuse_rank why ≤ 1 → Hinders s before stated body why
-      → ((m : ℕ) → IsFirstOfAnotherKind before (wanted_by before body) m → ⊥) → IsMisuse s before stated body why
-  side_wrong why low hinders none = record { kind = kind; gives_nothing = gives; hinders = hinders; first = at_least }
-    where
-      at_least : (other : Misuse) → Hinders s before stated body other → misuse_rank why ≤ misuse_rank other
-      at_least (AnotherKind m) h = absurd (none m h)
-      at_least (NotTheLeftSide m k) h = low
-      at_least (LeftSidesDiffer m k) h = low
-      at_least (NotWithinLeftSide m k) h = low
-      at_least (AnotherLeftSide m) h = low
-      at_least (NotWithinRightSide m) h = omega (arith, low)
-      at_least (Fault other) h = omega (arith, low)
+    -- the right side alone, where the left side that is stated is that of the premise
+    pub right_wrong : (p : ℕ) → asked_by body ≡ part p → Hinders s before stated body (NotWithinRightSide p)
+        → ((m : ℕ) → IsFirstOfAnotherKind before (wanted_by before body) m → ⊥)
+        → ((m : ℕ) → Hinders s before stated body (AnotherLeftSide m) → ⊥)
+        → IsMisuse s before stated body (NotWithinRightSide p)
+    right_wrong p asked hinders none same = record { kind = kind; gives_nothing = gives; hinders = hinders; first = at_least }
+      where
+        of_part : (other : Misuse) → Lacks before stated (asked_by body) other → Lacks before stated (part p) other
+        of_part other h = subst (λ a. Lacks before stated a other) asked h
 
-  -- the right side alone, where the left side that is stated is that of the premise
-  pub right_wrong : (p : ℕ) → asked_by body ≡ part p → Hinders s before stated body (NotWithinRightSide p)
-      → ((m : ℕ) → IsFirstOfAnotherKind before (wanted_by before body) m → ⊥)
-      → ((m : ℕ) → Hinders s before stated body (AnotherLeftSide m) → ⊥)
-      → IsMisuse s before stated body (NotWithinRightSide p)
-  right_wrong p asked hinders none same = record { kind = kind; gives_nothing = gives; hinders = hinders; first = at_least }
-    where
-      of_part : (other : Misuse) → Lacks before stated (asked_by body) other → Lacks before stated (part p) other
-      of_part other h = subst (λ a. Lacks before stated a other) asked h
+        at_least : (other : Misuse) → Hinders s before stated body other → 2 ≤ misuse_rank other
+        at_least (AnotherKind m) h = absurd (none m h)
+        at_least (NotTheLeftSide m k) h = absurd (of_part (NotTheLeftSide m k) h)
+        at_least (LeftSidesDiffer m k) h = absurd (of_part (LeftSidesDiffer m k) h)
+        at_least (NotWithinLeftSide m k) h = absurd (of_part (NotWithinLeftSide m k) h)
+        at_least (AnotherLeftSide m) h = absurd (same m h)
+        at_least (NotWithinRightSide m) h = omega arith
+        at_least (Fault other) h = omega arith
 
-      at_least : (other : Misuse) → Hinders s before stated body other → 2 ≤ misuse_rank other
-      at_least (AnotherKind m) h = absurd (none m h)
-      at_least (NotTheLeftSide m k) h = absurd (of_part (NotTheLeftSide m k) h)
-      at_least (LeftSidesDiffer m k) h = absurd (of_part (LeftSidesDiffer m k) h)
-      at_least (NotWithinLeftSide m k) h = absurd (of_part (NotWithinLeftSide m k) h)
-      at_least (AnotherLeftSide m) h = absurd (same m h)
-      at_least (NotWithinRightSide m) h = omega arith
-      at_least (Fault other) h = omega arith
+    -- the fault, where nothing is asked of sides
+    pub fault_wrong : asked_by body ≡ nothing → ((m : ℕ) → IsFirstOfAnotherKind before (wanted_by before body) m → ⊥)
+        → IsMisuse s before stated body (Fault kind)
+    fault_wrong asked none = record { kind = kind; gives_nothing = gives; hinders = gives; first = at_least }
+      where
+        of_nothing : (other : Misuse) → Lacks before stated (asked_by body) other → Lacks before stated nothing other
+        of_nothing other h = subst (λ a. Lacks before stated a other) asked h
 
-  -- the fault, where nothing is asked of sides
-  pub fault_wrong : asked_by body ≡ nothing → ((m : ℕ) → IsFirstOfAnotherKind before (wanted_by before body) m → ⊥)
-      → IsMisuse s before stated body (Fault kind)
-  fault_wrong asked none = record { kind = kind; gives_nothing = gives; hinders = gives; first = at_least }
-    where
-      of_nothing : (other : Misuse) → Lacks before stated (asked_by body) other → Lacks before stated nothing other
-      of_nothing other h = subst (λ a. Lacks before stated a other) asked h
-
-      at_least : (other : Misuse) → Hinders s before stated body other → 3 ≤ misuse_rank other
-      at_least (AnotherKind m) h = absurd (none m h)
-      at_least (NotTheLeftSide m k) h = absurd (of_nothing (NotTheLeftSide m k) h)
-      at_least (LeftSidesDiffer m k) h = absurd (of_nothing (LeftSidesDiffer m k) h)
-      at_least (NotWithinLeftSide m k) h = absurd (of_nothing (NotWithinLeftSide m k) h)
-      at_least (AnotherLeftSide m) h = absurd (of_nothing (AnotherLeftSide m) h)
-      at_least (NotWithinRightSide m) h = absurd (of_nothing (NotWithinRightSide m) h)
-      at_least (Fault other) h = omega arith
+        at_least : (other : Misuse) → Hinders s before stated body other → 3 ≤ misuse_rank other
+        at_least (AnotherKind m) h = absurd (none m h)
+        at_least (NotTheLeftSide m k) h = absurd (of_nothing (NotTheLeftSide m k) h)
+        at_least (LeftSidesDiffer m k) h = absurd (of_nothing (LeftSidesDiffer m k) h)
+        at_least (NotWithinLeftSide m k) h = absurd (of_nothing (NotWithinLeftSide m k) h)
+        at_least (AnotherLeftSide m) h = absurd (of_nothing (AnotherLeftSide m) h)
+        at_least (NotWithinRightSide m) h = absurd (of_nothing (NotWithinRightSide m) h)
+        at_least (Fault other) h = omega arith
 
 -- ---- one reason
 one_first : (before : List Dependency) (ws : List Wanted) (m k : ℕ) → IsFirstOfAnotherKind before ws m

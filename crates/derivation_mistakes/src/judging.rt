@@ -1,7 +1,9 @@
-ghost use Rattle.std.specs.Prelude.{◌≡◌, [], All, None, IfOk, IfSome, length};
+ghost use Rattle.std.specs.Prelude.{◌≡◌, List, [], ◌∷◌, ◌++◌, All, None, IfOk, IfSome, OnOk, length};
 ghost use Rattle.dep_model.specs.Dependencies.{IsWithin};
 ghost use Rattle.dep_model.specs.Deps.{dependencies_of, IsDepWithin};
 ghost use Rattle.schema_model.specs.Schemas.{universe_of};
+ghost use Rattle.derivation_grammar.specs.Derivations.{stated_by};
+ghost use Rattle.derivation_grammar.specs.Lines.{DerivationLine as Declared};
 ghost use Rattle.derivation_grammar.specs.Meanings.{IsDerivation, IsEarlier, premises_of};
 ghost use Rattle.derivation_text.specs.Views.{body_of_line, derivation_line_of, derivation_lines_of};
 ghost use Rattle.derivation_mistakes.specs.Mistakes.{AreMistakenLines, IsMistake, IsMistakenLine, IsRight};
@@ -34,13 +36,36 @@ pub fn mistaken_lines(
     let mut before = Vec::new(alloc);
     let mut found = Vec::new(alloc);
     for line in lines {
-        match mistaken_line(schema, &before, line) {
-            None => {}
-            Some(mistaken) => found.push(mistaken)?,
-        }
+        judge(schema, &before, line, &mut found)?;
         before.push(line.stated)?;
     }
     Ok(found)
+}
+
+/// Adds a line after those before to the wrong ones, if something is wrong with it.
+fn judge(
+    schema: &Schema,
+    before: &[Dep],
+    line: &DerivationLine,
+    found: &mut Vec<MistakenLine>,
+) -> Result<(), OutOfMemory>
+    requires before { All (IsWithin (universe_of schema.now)) (dependencies_of before.now) }
+    requires stated { IsDepWithin (universe_of schema.now) line.now.stated }
+    requires earlier { All (IsEarlier (length before.now)) (premises_of (body_of_line line.now.body)) }
+    ensures judged { (lines : List Declared) → dependencies_of before.now ≡ stated_by lines
+        → AreMistakenLines schema.now [] lines (mistaken_lines_of found.old.items)
+        → OnOk result (AreMistakenLines schema.now [] (lines ++ derivation_line_of line.now ∷ [])
+        (mistaken_lines_of found.new.items)) }
+    ensures within { All (IsMistakenLineWithin schema.now) found.old.items
+        → OnOk result (All (IsMistakenLineWithin schema.now) found.new.items) }
+{
+    match mistaken_line(schema, before, line) {
+        None => Ok(()),
+        Some(mistaken) => {
+            found.push(mistaken)?;
+            Ok(())
+        }
+    }
 }
 
 /// The line, if something is wrong with it.

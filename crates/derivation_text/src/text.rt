@@ -110,10 +110,10 @@ fn read_one(
             }
             match read_line(&Names::Guided(schema, guide), first, &word, rest) {
                 Err(refusal) => Err(Failure::Refused(ProofRefusalKind::BadLine(refusal))),
-                Ok(line) => {
-                    add_line(before, line)?;
-                    Ok(false)
-                }
+                Ok(line) => match add_line(before, line) {
+                    Ok(()) => Ok(false),
+                    Err(failure) => Err(failure),
+                },
             }
         }
     }

@@ -25,8 +25,10 @@ lines-init c = record {
       omega (arith, short, ap length c.without_mark-rest.ensures.text);
 }
 
-pub read_one-requires-clause-fits_u32 : goal.read_one-requires-clause-fits_u32
-read_one-requires-clause-fits_u32 c = omega (arith, c.lines.invariant.room, line_within _ _ _ c.cut_line.ensures.cut)
+pub read_one-requires : goal.read_one-requires
+read_one-requires c = record {
+  fits_u32 = omega (arith, c.lines.invariant.room, line_within _ _ _ c.cut_line.ensures.cut);
+}
 
 pub returns-in-Err-Refused-clause-err : goal.returns-in-Err-Refused-clause-err
 unfolding read_lines
