@@ -20,6 +20,7 @@ use Rattle.desk_inputs.specs.Inputs.{schema_file}
 use Rattle.desk_inputs.specs.Readings.{known_files}
 use Rattle.desk_outside.specs.Files.{Files, bytes_of_file}
 use Rattle.desk_responses.specs.ResponseValues.{ResponseValue, Says}
+use Rattle.desk_responses.specs.declared.status.Status.TheVariants.{Yes}
 use Rattle.desk_laws.specs.AcceptedTexts.{FitsSchemaFile, PrintedCanonicalCoverIsConfirmed, PrintedCoverIsConfirmed}
 use Rattle.desk_laws.proofs.CompleteLaws as calls
 use Rattle.desk_laws.proofs.CompleteLaws.{after_schema}

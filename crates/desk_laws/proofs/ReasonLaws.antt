@@ -3,9 +3,12 @@ use Rattle.std.proofs.Common.{ℕ, List, [], ◌∷◌, inl, inr, ap, sym, subst
 use Rattle.std.specs.Prelude.{codes}
 use Rattle.schema_model.specs.Schemas.{Schema, theory_in}
 use Rattle.key_listing.specs.Refusals.{IsTooWide}
+use Rattle.dep_model.specs.Dependencies.{Dependency}
+use Rattle.desk_arguments.specs.Goals.{IsGoal, WithGoal}
 use Rattle.desk_cli.specs.Performs.{Answers, Performs, Does, AnswersSchema}
 use Rattle.desk_covers.specs.CoverReasons.{AreCoverReasons, ExplainsCover}
 use Rattle.desk_covers.specs.Covering.{GivesCover}
+use Rattle.desk_implication.specs.Explanations.{ExplainsGoal}
 use Rattle.desk_keys.specs.KeyReasons.{AreKeyReasons, ExplainsKeys}
 use Rattle.desk_keys.specs.Keys.{HasManyKeys, ListsKeys}
 use Rattle.desk_inputs.specs.FileKinds.{IsFile, WithFile}
