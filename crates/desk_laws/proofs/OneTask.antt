@@ -9,7 +9,7 @@ use Rattle.plan_printer.specs.NamedPlans.{NamedSchemes}
 use Rattle.desk_outside.specs.Files.{Files}
 use Rattle.plan_laws.proofs.FolderAnswers.{one_form_into, one_plan_into}
 use Rattle.implication_laws.specs.OneAnswer.{AllowsOne}
-use Rattle.implication_laws.proofs.OneAnswer.{one_basis_answer, one_canonical_cover, one_certificate_answer, one_cover_answer, one_exhibit_answer, one_goal_stop, one_keys_answer, one_same_answer}
+use Rattle.implication_laws.proofs.OneAnswer.{one_basis_answer, one_canonical_answer, one_certificate_answer, one_cover_answer, one_exhibit_answer, one_goal_stop, one_keys_answer, one_same_answer}
 use Rattle.implication_laws.proofs.ExplainedGoals.{explained_twice}
 use Rattle.implication_laws.proofs.OneDerivation.{one_derivation_answer}
 use Rattle.implication_laws.proofs.OneDecision.{one_decision}
@@ -97,7 +97,7 @@ pub one_schema_answer : (question : SchemaQuestion) (s : Schema) (one other : Re
 unfolding AnswersSchema
 one_schema_answer (form.implies goal) s one other first second = two_goals s goal one other first second
 one_schema_answer form.cover s one other first second = inl (one_cover_answer s one other first second)
-one_schema_answer form.cover_canonical s one other first second = inl (one_canonical_cover s one other first second)
+one_schema_answer form.cover_canonical s one other first second = inl (one_canonical_answer s one other first second)
 one_schema_answer (form.basis set) s one other first second = inl (one_basis_answer s set one other first second)
 one_schema_answer (form.closure set) s one other first second = inl (one_closure_answer s set one other first second)
 one_schema_answer (form.project set) s one other first second = inl (one_projection_answer s set one other first second)

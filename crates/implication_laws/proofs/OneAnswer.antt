@@ -12,7 +12,6 @@ use Rattle.armstrong_rel.specs.ClosedSets.{IsIrreducible}
 use Rattle.armstrong_rel.specs.Refusals.{IsFirstMvd, AreTooMany}
 use Rattle.armstrong_rel.proofs.OneExhibit.{exhibit_same}
 use Rattle.armstrong_rel.proofs.TupleLemmas.{length-tuples_for}
-use Rattle.canonical_cover.specs.Merging.{merge_left_sides}
 use Rattle.csv_text.specs.Rows.{rows_text}
 use Rattle.dep_basis.proofs.DecidingLemmas.{least_same}
 use Rattle.dep_basis.specs.Traces.{blocks_of}
@@ -62,7 +61,7 @@ use Rattle.implication_laws.specs.OneAnswer.{AllowsOne}
 use Rattle.implication_laws.proofs.AlikeLaws.{none_lacking, names_go}
 use Rattle.implication_laws.proofs.GoalLemmas.{one_goal, goal_goes}
 use Rattle.implication_laws.proofs.OneBasis.{one_closed, one_blocks}
-use Rattle.implication_laws.proofs.OneCover.{one_whole_cover}
+use Rattle.implication_laws.proofs.OneCover.{one_canonical_cover, one_whole_cover}
 use Rattle.implication_laws.proofs.OneKey.{one_keys, before_one_way, ascends, each_key, key_listed}
 use Rattle.implication_laws.proofs.OneList.{one_differences, one_near_rules, one_row_keys, one_rules, one_small_rules, one_list_of_all}
 use Rattle.dep_model.proofs.OrderedLists.{no_longer}
@@ -144,12 +143,10 @@ one_cover_answer schema one other (whole, fixed, minimal, covers, says) (entire,
     same_says Yes _ _ one other says said
     (ap (schema_text schema) (one_whole_cover (width_of schema) (theory_of schema) whole entire fixed also))
 
-pub one_canonical_cover : (schema : Schema) → AllowsOne (GivesCanonicalCover schema)
-one_canonical_cover schema one other (cover, fixed, minimal, covers, says) (more, also, minimal_too, covers_too, said) =
-    let whole : fixed.whole ≡ also.whole =
-    one_whole_cover (width_of schema) (theory_of schema) fixed.whole also.whole fixed.fixed also.fixed in
+pub one_canonical_answer : (schema : Schema) → AllowsOne (GivesCanonicalCover schema)
+one_canonical_answer schema one other (cover, fixed, canonical, covers, says) (more, also, canonical_too, covers_too, said) =
     same_says Yes _ _ one other says said
-    (ap (schema_text schema) (fixed.once ∙ ap merge_left_sides whole ∙ sym also.once))
+    (ap (schema_text schema) (one_canonical_cover (width_of schema) (theory_of schema) cover more fixed also))
 
 -- ---- bases
 one_told : (schema : Schema) (x : Attributes) → AllowsOne (TellsBasis schema x)
