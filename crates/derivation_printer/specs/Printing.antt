@@ -1,9 +1,10 @@
 -- The one text in which a derivation is printed: for `print_derivation` and `explain implies`.
-use Rattle.std.specs.Prelude.{ℕ, ◌+◌, List, [], ◌∷◌, ◌++◌, codes, decimal}
+use Rattle.std.specs.Prelude.{ℕ, ◌+◌, ◌<◌, List, [], ◌∷◌, ◌++◌, codes, decimal}
 use Rattle.std.specs.List.{flat_map}
 use Rattle.attr_sets.specs.Attributes.{Attributes}
 use Rattle.schema_model.specs.Schemas.{Schema}
 use Rattle.dep_model.specs.Dependencies.{IsWithin}
+use Rattle.derivation.specs.declared.measures.TheConstants.{MOST_NODES}
 use Rattle.schema_printer.specs.Printing.{dependency_text}
 use Rattle.schema_printer.specs.Spelling.{printed_names_of}
 use Rattle.proof_grammar.specs.Lines.{by_step, by_pair}
@@ -63,7 +64,16 @@ abbrev pub IsDerivationBodyWithin : Attributes → DerivationBody → Type 0
 IsDerivationBodyWithin universe (by_rule b) = IsBodyWithin universe b
 IsDerivationBodyWithin universe _ = Unit {0}
 
--- the same of all sets of a line
+-- the lines of its premises are within the limit on lines
+abbrev pub NumbersFit : why.Why → Type 0
+NumbersFit (why.by_leaf rule) = Unit {0}
+NumbersFit (why.by_step rule p) = p < MOST_NODES
+NumbersFit (why.by_pair rule p q) = (p < MOST_NODES) × (q < MOST_NODES)
+NumbersFit (why.by_decomposition p) = p < MOST_NODES
+NumbersFit (why.by_further rule p q) = (p < MOST_NODES) × (q < MOST_NODES)
+
+-- all sets of a line lie within a set, and all numbers fit
 pub record IsLineWithin (universe : Attributes) (l : Line) : Type 0 where
   pub stated : IsWithin universe l.stated
   pub body : IsDerivationBodyWithin universe (body_of l.why)
+  pub numbers : NumbersFit l.why

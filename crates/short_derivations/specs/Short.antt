@@ -1,7 +1,7 @@
 -- When a derivation of a goal is short: for `short_derivation` and `explain implies`.
 use Rattle.std.specs.Prelude.{◌≡◌, ◌⊎◌, ◌≤◌, ℕ, ◌+◌, ◌*◌, List, [], ◌∷◌, ◌++◌, length, All, Contains}
 use Rattle.attr_sets.specs.Attributes.{Attributes, IsSubset}
-use Rattle.dep_model.specs.Dependencies.{Dependency, fd, functional_part}
+use Rattle.dep_model.specs.Dependencies.{Dependency, fd, mvd, functional_part}
 use Rattle.dep_model.specs.Implication.{Implies}
 use Rattle.dep_model.specs.Theories.{Theory, theory_of, width_of}
 use Rattle.derivation.specs.Trees.{Tree, given, nodes}
@@ -32,7 +32,21 @@ NoneIsSpared s goal lines =
     → (others : List Dependency) → All (λ e. Contains (givens_of lines) e × (e ≡ d → ⊥)) others
     → Implies (width_of s) others goal → ⊥
 
--- a derivation of a goal that a theory implies, as short as one may ask
+-- a functional goal that is no dependency of the theory and follows from the functional ones: none can be
+-- spared
+abbrev pub SparesNone : Theory → Dependency → List Line → Type 0
+SparesNone s (fd x y) lines =
+    (Contains (theory_of s) (fd x y) → ⊥) → FollowsFunctionally s (fd x y) → NoneIsSpared s (fd x y) lines
+SparesNone s (mvd x y) lines = Unit {0}
+
+-- and there are few lines for those that stand as given
+abbrev pub IsThrifty : Theory → Dependency → List Line → Type 0
+IsThrifty s (fd x y) lines = FollowsFunctionally s (fd x y) → length lines ≤ 3 * length (givens_of lines) + 1
+IsThrifty s (mvd x y) lines = Unit {0}
+
+-- a derivation of a goal as short as one may ask: each line is what its rule gives, the last states the goal,
+-- each other is used, and none is repeated; a goal of the theory is one line, and a part of one two at most;
+-- none that stand as given can be spared, and there are few lines for them
 pub record IsShortDerivation (s : Theory) (goal : Dependency) (lines : List Line) : Type 0 where
   pub given : AreGiven s [] lines
   pub concludes : Concludes lines goal
@@ -40,3 +54,5 @@ pub record IsShortDerivation (s : Theory) (goal : Dependency) (lines : List Line
   pub once : NoneIsRepeated lines
   pub alone : Contains (theory_of s) goal → IsGivenAlone lines goal
   pub two : IsPartOfGiven s goal → length lines ≤ 2
+  pub spared : SparesNone s goal lines
+  pub thrifty : IsThrifty s goal lines

@@ -9,8 +9,17 @@
 //! there are no more of them than the certificate has; none of the given ones can be spared.
 #![tactic(auto)]
 
+mod certificates;
+mod chaining;
+mod checking;
 mod composing;
+mod emitting;
+mod functional;
 mod inference;
+mod lines;
+mod links;
+mod needing;
+mod substituting;
 
 pub use composing::short_derivation;
 pub use inference::{Inference, Reason};
