@@ -1,3 +1,4 @@
+pub mod JudgingLemmas
 pub mod MistakenLines
 pub mod MisuseLemmas
 pub mod OneMistake

@@ -40,7 +40,9 @@ stated_there before p is e = by_zero (p == 0) refl e
     by_place none (inr past) = omega (arith, past.0, is.0, is.1)
 
     by_zero : (b : Bool) → (p == 0) ≡ b → cond b None (slice_get before (p - 1)) ≡ None → ⊥
-    by_zero true zero h = omega (arith, is.0, grind (arith, nat_tests, zero))
+    by_zero true zero h =
+        let none : p ≡ 0 = grind (arith, nat_tests, zero) in
+        omega (arith, is.0, none)
     by_zero false some h = by_place h (slice_get_cases before (p - 1)).1
 
 over_one_none : (f : Dependency → Result Dependency FaultKind) (o : Option Dependency) → over_one f o ≡ None → o ≡ None

@@ -110,9 +110,9 @@ module _ (s : Schema) (before : List Dependency) (stated : Dependency) where
       by_left : (b : Bool) → is_same (left_of stated) x ≡ b → (b && is_subset (right_of stated) y) ≡ false
           → IsMisuse s before stated (by_decomposition p) (if b then NotWithinRightSide p else AnotherLeftSide p)
       by_left true holds right =
-          right_wrong s before stated (by_decomposition p) kind e p refl (refl, fd x y, at, right) none (left_holds holds)
+          right_wrong s before stated (by_decomposition p) kind e p refl (refl, (fd x y, at, right)) none (left_holds holds)
       by_left false fails right =
-          side_wrong s before stated (by_decomposition p) kind e (AnotherLeftSide p) (omega arith) (refl, fd x y, at, fails) none
+          side_wrong s before stated (by_decomposition p) kind e (AnotherLeftSide p) (omega arith) (refl, (fd x y, at, fails)) none
 
   -- ---- rules with two premises
   pair_case : (r : Pair) (p q : ℕ) (x y : Dependency) (kind : FaultKind) → Gives (by_rule (by_pair r p q)) kind
@@ -123,7 +123,7 @@ module _ (s : Schema) (before : List Dependency) (stated : Dependency) where
       let passed = cond_err _ MiddleDiffers kind _ h in
       subst (λ k. IsMisuse s before stated body (pair_misuse before transitivity p q k)) passed.1
       (side_wrong s before stated body kind e (NotTheLeftSide p q) (omega arith)
-      (refl, refl, fd x y, fd v z, first, second, passed.0)
+      (refl, refl, (fd x y, fd v z, first, second, passed.0))
       (none_of_two before (functional p) (functional q) (kind_of before p (fd x y) first)
       (kind_of before q (fd v z) second)))
   pair_case transitivity p q (fd x y) (mvd v z) kind e first second h =
@@ -167,7 +167,7 @@ module _ (s : Schema) (before : List Dependency) (stated : Dependency) where
       let passed = cond_err _ MiddleDiffers kind _ h in
       subst (λ k. IsMisuse s before stated body (pair_misuse before mtransitivity p q k)) passed.1
       (side_wrong s before stated body kind e (NotTheLeftSide p q) (omega arith)
-      (refl, refl, mvd x y, mvd v z, first, second, passed.0)
+      (refl, refl, (mvd x y, mvd v z, first, second, passed.0))
       (none_of_two before (multivalued p) (multivalued q) (kind_of before p (mvd x y) first)
       (kind_of before q (mvd v z) second)))
   pair_case coalescence p q (fd x y) (fd v z) kind e first second h =
@@ -216,7 +216,7 @@ module _ (s : Schema) (before : List Dependency) (stated : Dependency) where
       let passed = cond_err _ MiddleDiffers kind _ h in
       subst (λ k. IsMisuse s before stated body (further_misuse before further.union p q k)) passed.1
       (side_wrong s before stated body kind e (LeftSidesDiffer p q) (omega arith)
-      (refl, refl, fd x y, fd v z, first, second, passed.0)
+      (refl, refl, (fd x y, fd v z, first, second, passed.0))
       (none_of_one before (record { line = q; kind = kind_at before p })
       (kind_of before q (fd v z) second ∙ sym (kind_of before p (fd x y) first))))
   further_case further.union p q (fd x y) (mvd v z) kind e first second h =
@@ -236,7 +236,7 @@ module _ (s : Schema) (before : List Dependency) (stated : Dependency) where
       let passed = cond_err _ MiddleDiffers kind _ h in
       subst (λ k. IsMisuse s before stated body (further_misuse before further.union p q k)) passed.1
       (side_wrong s before stated body kind e (LeftSidesDiffer p q) (omega arith)
-      (refl, refl, mvd x y, mvd v z, first, second, passed.0)
+      (refl, refl, (mvd x y, mvd v z, first, second, passed.0))
       (none_of_one before (record { line = q; kind = kind_at before p })
       (kind_of before q (mvd v z) second ∙ sym (kind_of before p (mvd x y) first))))
   further_case further.pseudotransitivity p q (fd x y) (fd v z) kind e first second h =
@@ -244,7 +244,7 @@ module _ (s : Schema) (before : List Dependency) (stated : Dependency) where
       let passed = cond_err _ MiddleDiffers kind _ h in
       subst (λ k. IsMisuse s before stated body (further_misuse before further.pseudotransitivity p q k)) passed.1
       (side_wrong s before stated body kind e (NotWithinLeftSide p q) (omega arith)
-      (refl, refl, fd x y, fd v z, first, second, passed.0)
+      (refl, refl, (fd x y, fd v z, first, second, passed.0))
       (none_of_two before (functional p) (functional q) (kind_of before p (fd x y) first)
       (kind_of before q (fd v z) second)))
   further_case further.pseudotransitivity p q (fd x y) (mvd v z) kind e first second h =
@@ -288,7 +288,7 @@ module _ (s : Schema) (before : List Dependency) (stated : Dependency) where
       let passed = cond_err _ MiddleDiffers kind _ h in
       subst (λ k. IsMisuse s before stated body (further_misuse before further.intersection p q k)) passed.1
       (side_wrong s before stated body kind e (LeftSidesDiffer p q) (omega arith)
-      (refl, refl, mvd x y, mvd v z, first, second, passed.0)
+      (refl, refl, (mvd x y, mvd v z, first, second, passed.0))
       (none_of_two before (multivalued p) (multivalued q) (kind_of before p (mvd x y) first)
       (kind_of before q (mvd v z) second)))
   further_case further.difference p q (fd x y) (fd v z) kind e first second h =
@@ -314,7 +314,7 @@ module _ (s : Schema) (before : List Dependency) (stated : Dependency) where
       let passed = cond_err _ MiddleDiffers kind _ h in
       subst (λ k. IsMisuse s before stated body (further_misuse before further.difference p q k)) passed.1
       (side_wrong s before stated body kind e (LeftSidesDiffer p q) (omega arith)
-      (refl, refl, mvd x y, mvd v z, first, second, passed.0)
+      (refl, refl, (mvd x y, mvd v z, first, second, passed.0))
       (none_of_two before (multivalued p) (multivalued q) (kind_of before p (mvd x y) first)
       (kind_of before q (mvd v z) second)))
   further_case further.mpseudotransitivity p q (fd x y) (fd v z) kind e first second h =
@@ -340,7 +340,7 @@ module _ (s : Schema) (before : List Dependency) (stated : Dependency) where
       let passed = cond_err _ MiddleDiffers kind _ h in
       subst (λ k. IsMisuse s before stated body (further_misuse before further.mpseudotransitivity p q k)) passed.1
       (side_wrong s before stated body kind e (NotWithinLeftSide p q) (omega arith)
-      (refl, refl, mvd x y, mvd v z, first, second, passed.0)
+      (refl, refl, (mvd x y, mvd v z, first, second, passed.0))
       (none_of_two before (multivalued p) (multivalued q) (kind_of before p (mvd x y) first)
       (kind_of before q (mvd v z) second)))
 

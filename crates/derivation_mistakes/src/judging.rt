@@ -1,13 +1,13 @@
-ghost use Rattle.std.specs.Prelude.{◌≡◌, List, [], ◌∷◌, ◌++◌, All, None, IfOk, IfSome, OnOk, length};
+ghost use Rattle.std.specs.Prelude.{◌≡◌, ◌↔◌, List, [], ◌∷◌, ◌++◌, All, None, IsTrue, IfOk, IfSome, OnOk, length};
 ghost use Rattle.dep_model.specs.Dependencies.{IsWithin};
-ghost use Rattle.dep_model.specs.Deps.{dependencies_of, IsDepWithin};
-ghost use Rattle.schema_model.specs.Schemas.{universe_of};
+ghost use Rattle.dep_model.specs.Deps.{dependency_of, dependencies_of, IsDepWithin};
+ghost use Rattle.schema_model.specs.Schemas.{universe_of, ImpliedBy};
 ghost use Rattle.derivation_grammar.specs.Derivations.{stated_by};
 ghost use Rattle.derivation_grammar.specs.Lines.{DerivationLine as Declared};
 ghost use Rattle.derivation_grammar.specs.Meanings.{IsDerivation, IsEarlier, premises_of};
 ghost use Rattle.derivation_text.specs.Views.{body_of_line, derivation_line_of, derivation_lines_of};
 ghost use Rattle.derivation_mistakes.specs.Mistakes.{AreMistakenLines, IsMistake, IsMistakenLine, IsRight};
-ghost use Rattle.derivation_mistakes.specs.Views.{mistake_of, mistaken_line_of, mistaken_lines_of, IsMistakenLineWithin, IsMistakeWithin};
+ghost use Rattle.derivation_mistakes.specs.Views.{mistake_of, mistaken_line_of, mistaken_lines_of, IsMistakenLineOf, IsMistakeWithin};
 
 use crate::misusing::misuse_of;
 use crate::outcome::outcome_of_line;
@@ -31,7 +31,7 @@ pub fn mistaken_lines(
         (λ found. AreMistakenLines schema.now [] (derivation_lines_of lines.now)
         (mistaken_lines_of found.items)) }
     // The dependencies that it names can be printed.
-    ensures within { IfOk result (λ found. All (IsMistakenLineWithin schema.now) found.items) }
+    ensures of_schema { IfOk result (λ found. All (IsMistakenLineOf schema.now) found.items) }
 {
     let mut before = Vec::new(alloc);
     let mut found = Vec::new(alloc);
@@ -52,14 +52,14 @@ fn judge(
     requires before { All (IsWithin (universe_of schema.now)) (dependencies_of before.now) }
     requires stated { IsDepWithin (universe_of schema.now) line.now.stated }
     requires earlier { All (IsEarlier (length before.now)) (premises_of (body_of_line line.now.body)) }
+    requires found { All (IsMistakenLineOf schema.now) found.old.items }
     ensures judged { (lines : List Declared) → dependencies_of before.now ≡ stated_by lines
         → AreMistakenLines schema.now [] lines (mistaken_lines_of found.old.items)
         → OnOk result (AreMistakenLines schema.now [] (lines ++ derivation_line_of line.now ∷ [])
         (mistaken_lines_of found.new.items)) }
-    ensures within { All (IsMistakenLineWithin schema.now) found.old.items
-        → OnOk result (All (IsMistakenLineWithin schema.now) found.new.items) }
+    ensures found { OnOk result (All (IsMistakenLineOf schema.now) found.new.items) }
 {
-    match mistaken_line(schema, before, line) {
+    match mistaken_line(schema, before, line, found) {
         None => Ok(()),
         Some(mistaken) => {
             found.push(mistaken)?;
@@ -69,24 +69,49 @@ fn judge(
 }
 
 /// The line, if something is wrong with it.
-fn mistaken_line(schema: &Schema, before: &[Dep], line: &DerivationLine) -> Option<MistakenLine>
+fn mistaken_line(
+    schema: &Schema,
+    before: &[Dep],
+    line: &DerivationLine,
+    found: &[MistakenLine],
+) -> Option<MistakenLine>
     requires before { All (IsWithin (universe_of schema.now)) (dependencies_of before.now) }
     requires stated { IsDepWithin (universe_of schema.now) line.now.stated }
     requires earlier { All (IsEarlier (length before.now)) (premises_of (body_of_line line.now.body)) }
+    requires found { All (IsMistakenLineOf schema.now) found.now }
     ensures none { result ≡ None
         → IsRight schema.now (dependencies_of before.now) (derivation_line_of line.now) }
     ensures some { IfSome result
         (λ mistaken. IsMistakenLine schema.now (dependencies_of before.now) (derivation_line_of line.now)
         (mistaken_line_of mistaken)) }
-    ensures within { IfSome result (IsMistakenLineWithin schema.now) }
+    ensures of_schema { IfSome result (IsMistakenLineOf schema.now) }
 {
     match mistake_of(schema, before, line) {
         None => None,
         Some(mistake) => Some(MistakenLine {
             line: *line,
             mistake,
-            follows: is_implied(&schema.theory(), line.stated),
+            follows: follows(schema, found, line.stated),
         }),
+    }
+}
+
+/// Whether a dependency follows from a schema. Lines that state the same are decided once where they are
+/// told one after another.
+fn follows(schema: &Schema, found: &[MistakenLine], dep: Dep) -> bool
+    requires within { IsDepWithin (universe_of schema.now) dep }
+    requires found { All (IsMistakenLineOf schema.now) found.now }
+    ensures follows { IsTrue result ↔ ImpliedBy schema.now (dependency_of dep) }
+{
+    match found.last() {
+        None => is_implied(&schema.theory(), dep),
+        Some(last) => {
+            if same_dependency(last.line.stated, dep) {
+                last.follows
+            } else {
+                is_implied(&schema.theory(), dep)
+            }
+        }
     }
 }
 

@@ -18,11 +18,17 @@ use proof_text::Body;
 
 /// The first reason why a rule does not apply, which has a fault of this kind.
 pub fn misuse_of(before: &[Dep], stated: Dep, body: DerivationBody, kind: FaultKind) -> Misuse
-    ensures exact { result
-        ≡ misuse_of (dependencies_of before.now) (dependency_of stated) (body_of_line body) kind }
     ensures first { (s : Schema) → outcome_of_line s (dependencies_of before.now) (dependency_of stated)
         (body_of_line body) ≡ Some (Err kind)
         → IsMisuse s (dependencies_of before.now) (dependency_of stated) (body_of_line body) result }
+{
+    named_misuse(before, stated, body, kind)
+}
+
+/// The reason by which a fault is named.
+fn named_misuse(before: &[Dep], stated: Dep, body: DerivationBody, kind: FaultKind) -> Misuse
+    ensures exact { result
+        ≡ misuse_of (dependencies_of before.now) (dependency_of stated) (body_of_line body) kind }
 {
     match body {
         DerivationBody::Rule(Body::Step(_, p)) => step_misuse(p, kind),

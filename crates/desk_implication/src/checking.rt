@@ -4,7 +4,7 @@ ghost use Rattle.schema_model.specs.Schemas.{universe_of, ImpliedBy};
 ghost use Rattle.derivation_grammar.specs.Derivations.{LastStates};
 ghost use Rattle.derivation_grammar.specs.Meanings.{IsDerivation};
 ghost use Rattle.derivation_text.specs.Views.{derivation_lines_of};
-ghost use Rattle.derivation_mistakes.specs.Views.{mistaken_lines_of, IsMistakenLineWithin};
+ghost use Rattle.derivation_mistakes.specs.Views.{mistaken_lines_of, IsMistakenLineOf};
 ghost use Rattle.desk_implication.specs.Derivations.{ChecksDerivation, DerivationChecked, DerivationJudged};
 ghost use Rattle.desk_responses.specs.Responses.{response_value, RespondsAs};
 
@@ -73,7 +73,7 @@ fn judged_response(
     concluded: Dep,
     goal: Dep,
 ) -> Result<Response, OutOfMemory>
-    requires found { All (IsMistakenLineWithin schema.now) found.now }
+    requires found { All (IsMistakenLineOf schema.now) found.now }
     requires concluded { IsDepWithin (universe_of schema.now) concluded }
     requires goal { IsDepWithin (universe_of schema.now) goal }
     requires implied { mistaken_lines_of found.now ≡ [] → ImpliedBy schema.now (dependency_of concluded) }

@@ -5,7 +5,7 @@ ghost use Rattle.derivation.specs.Derivs.{step_of, pair_of};
 ghost use Rattle.derivation_rules.specs.Views.{further_of};
 ghost use Rattle.derivation_grammar.specs.Meanings.{further_name};
 ghost use Rattle.derivation_text.specs.Views.{body_of_line};
-ghost use Rattle.derivation_mistakes.specs.Views.{mistake_of, mistaken_line_of, mistaken_lines_of, IsMistakenLineWithin, IsMistakeWithin};
+ghost use Rattle.derivation_mistakes.specs.Views.{mistake_of, mistaken_line_of, mistaken_lines_of, IsMistakenLineOf, IsMistakeWithin};
 ghost use Rattle.desk_implication.specs.MistakeTexts.{follows_text, misuse_text, mistake_text, mistaken_line_text, mistaken_lines_text, pair_name, rule_text, step_name, with_number};
 
 use byte_texts::{add, add_number};
@@ -26,7 +26,7 @@ pub fn mistaken_line_texts(
     schema: &Schema,
     found: &[MistakenLine],
 ) -> Result<Vec<u8>, OutOfMemory>
-    requires within { All (IsMistakenLineWithin schema.now) found.now }
+    requires within { All (IsMistakenLineOf schema.now) found.now }
     ensures text { IfOk result (λ text. text.items
         ≡ mistaken_lines_text (printed_names_of schema.now) (mistaken_lines_of found.now)) }
 {
@@ -44,7 +44,7 @@ fn put_mistaken_line(
     schema: &Schema,
     mistaken: &MistakenLine,
 ) -> Result<(), OutOfMemory>
-    requires within { IsMistakenLineWithin schema.now mistaken.now }
+    requires within { IsMistakenLineOf schema.now mistaken.now }
     ensures added { OnOk result (text.new.items
         ≡ text.old.items ++ mistaken_line_text (printed_names_of schema.now) (mistaken_line_of mistaken.now)) }
 {

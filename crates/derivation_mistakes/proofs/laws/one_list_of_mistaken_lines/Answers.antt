@@ -1,4 +1,5 @@
 -- The law `one_list_of_mistaken_lines`.
+use Rattle.std.proofs.Common.{[]}
 use Rattle.derivation_mistakes.proofs.OneMistake.{one_list}
 use Rattle.derivation_mistakes.proofs.laws.one_list_of_mistaken_lines.Goals as goal
 
