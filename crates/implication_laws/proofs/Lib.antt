@@ -15,6 +15,7 @@ mod ExhibitLaws
 mod FoundLaws
 mod WrittenSchemas
 pub mod WrittenCovers
+mod ProjectLaws
 pub mod StepLaws
 pub mod OneAnswer
 pub mod OneDerivation

@@ -14,6 +14,7 @@ mod discovering;
 mod exhibiting;
 mod explaining;
 mod implying;
+mod projecting;
 mod rewriting;
 mod uniqueness;
 
@@ -37,6 +38,7 @@ pub use explaining::{
 pub use implying::{
     accepted_goals_are_implied, legal_rows_obey_implied_goals, yes_and_no_exclude_each_other,
 };
+pub use projecting::printed_projections_mean_their_part;
 pub use rewriting::{
     covers_are_answered_alike, line_order_is_free, printed_covers_are_confirmed,
     same_legal_relations_are_answered_alike,

@@ -9,8 +9,8 @@ use Rattle.desk_covers.proofs.cover_checks.form_line.Goals as goal
 pub returns : goal.returns
 returns c =
     let told = functional_told c.args.schema.now c.is_functional.result (rw (c.deps.ensures.deps) at c.is_functional.ensures.functional) in
-    let words = c.form_words.ensures.words ∙ ap (form_words c.args.form) (sym told) in
+    let words = c.form_words-words.ensures.words ∙ ap (form_words c.args.form) (sym told) in
     record {
-      text = subst (λ (t : List ℕ). IfOk c.line_of.result (λ text. text.items ≡ line t)) (append-nil c.form_words.result.now ∙ words)
+      text = subst (λ (t : List ℕ). IfOk c.line_of.result (λ text. text.items ≡ line t)) (append-nil c.form_words-words.result.now ∙ words)
           c.line_of.ensures.line;
     }
