@@ -27,7 +27,7 @@ derivation_accepted schema goal looks later before after file printed response a
     let given = given_there before schema (λ s. ExplainsImplication s goal) printed says_yes
     (why_answers looks before schema goal printed answered) in
     let s = given.0 in
-    let found = explained_accepted s goal printed given.2 says_yes in
+    let found = explained_accepted given.1.bytes s goal printed given.1.means given.2 says_yes in
     let held : IsFile (derivation_file s) (known_files after) file found.0 =
     record { bytes = printed.text; content = (kept, fits); means = found.1 } in
     found.2 response

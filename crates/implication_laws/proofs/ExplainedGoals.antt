@@ -8,6 +8,9 @@ use Rattle.derivation_grammar.proofs.DerivedLines.{one_last}
 use Rattle.derivation_mistakes.specs.Mistakes.{AreMistakenLines, MistakenLine}
 use Rattle.derivation_mistakes.proofs.MistakenLines.{derives_without_mistakes}
 use Rattle.derivation_mistakes.proofs.OneMistake.{one_list}
+use Rattle.schema_grammar.specs.Schemas.{MeansSchema}
+use Rattle.schema_grammar.specs.Texts.{declarations_of}
+use Rattle.schema_grammar.proofs.DeclaredNames.{declared_read_back}
 use Rattle.schema_model.specs.Schemas.{Schema, ImpliedBy, names_of, naming_of}
 use Rattle.desk_arguments.specs.Goals.{IsGoal}
 use Rattle.desk_implication.specs.Derivations.{ChecksDerivation, DerivationChecked, DerivationJudged}
@@ -109,14 +112,16 @@ derives_accepted s goal text d is derives =
         judged_yes s lines d checked none last
         (subst (λ (g : Dependency). DerivationChecked s lines g checked) (same_goal s goal e d also is) rest)
 
--- what is printed after yes is accepted for the same goal
-pub explained_accepted : (s : Schema) (goal : List ℕ) (explained : ResponseValue) → ExplainsImplication s goal explained
-    → explained.status ≡ Yes → IsAcceptedFor s goal explained.text
-explained_accepted s goal explained (inl stops) says_yes =
+-- what is printed after yes, of the schema of a file, is accepted for the same goal
+pub explained_accepted : (file : List ℕ) (s : Schema) (goal : List ℕ) (explained : ResponseValue)
+    → MeansSchema file (declarations_of s) → ExplainsImplication s goal explained → explained.status ≡ Yes
+    → IsAcceptedFor s goal explained.text
+explained_accepted file s goal explained means (inl stops) says_yes =
     absurd (refused_not_yes explained says_yes (goal_stops-status s goal explained stops))
-explained_accepted s goal explained (inr (d, is, inl (implied, (lines, found, says)))) says_yes =
+explained_accepted file s goal explained means (inr (d, is, inl (implied, (lines, found, says)))) says_yes =
     derives_accepted s goal explained.text d is
-    (subst (λ (text : List ℕ). Derives s text d) (sym (ap (λ (r : ResponseValue). r.text) says)) found.derives)
-explained_accepted s goal explained (inr (d, is, inr (broken, inl (implied, found)))) says_yes = absurd (broken implied)
-explained_accepted s goal explained (inr (d, is, inr (broken, inr (also, found)))) says_yes =
+    (subst (λ (text : List ℕ). Derives s text d) (sym (ap (λ (r : ResponseValue). r.text) says))
+    (found.derives (declared_read_back file (declarations_of s) means)))
+explained_accepted file s goal explained means (inr (d, is, inr (broken, inl (implied, found)))) says_yes = absurd (broken implied)
+explained_accepted file s goal explained means (inr (d, is, inr (broken, inr (also, found)))) says_yes =
     absurd (no_not_yes explained says_yes (says-status No _ explained found.3))

@@ -5,6 +5,8 @@ ghost use Rattle.attr_sets.specs.Attributes.{only, difference};
 ghost use Rattle.dep_model.specs.Keys.{IsSuperkey};
 ghost use Rattle.schema_model.specs.Schemas.{width_of, theory_of, universe_of};
 ghost use Rattle.schema_model.specs.Schemas.{Schema};
+ghost use Rattle.schema_grammar.specs.Schemas.{MeansSchema};
+ghost use Rattle.schema_grammar.specs.Texts.{declarations_of};
 ghost use Rattle.desk_implication.specs.Explanations.{ExplainsImplication};
 ghost use Rattle.desk_implication.specs.Implication.{DecidesGoal};
 ghost use Rattle.desk_keys.specs.KeyReasons.{InEveryKey};
@@ -31,9 +33,10 @@ pub fn explained_goals_are_decided()
         → (explained ≡ other) ⊎ AreBothYes schema goal explained other }
 {}
 
-/// What `explain implies` prints after yes is a derivation that `check derivation` accepts for the same goal.
+/// What `explain implies` prints after yes, of the schema of a file, is a derivation that `check derivation` accepts
+/// for the same goal.
 pub fn explained_goals_are_accepted()
-    ensures law { (schema : Schema) (goal : List ℕ) (explained : ResponseValue)
-        → ExplainsImplication schema goal explained → explained.status ≡ Yes
-        → IsAcceptedFor schema goal explained.text }
+    ensures law { (file : List ℕ) (schema : Schema) (goal : List ℕ) (explained : ResponseValue)
+        → MeansSchema file (declarations_of schema) → ExplainsImplication schema goal explained
+        → explained.status ≡ Yes → IsAcceptedFor schema goal explained.text }
 {}
