@@ -1,5 +1,6 @@
 -- The definitions of desk_implication, in reading order: a file for each command.
 pub mod Implication
+pub mod Explanations
 pub mod Certificates
 pub mod Bases
 pub mod Closures

@@ -13,6 +13,8 @@ mod CanonicalLaws
 mod ConfirmedLaws
 mod ExhibitLaws
 mod FoundLaws
+mod WrittenSchemas
+pub mod WrittenCovers
 mod ProjectLaws
 pub mod StepLaws
 pub mod OneAnswer
@@ -22,4 +24,5 @@ pub mod OneProjection
 pub mod OneReasons
 mod EveryKeyLaws
 pub mod OneDecision
+pub mod ExplainedGoals
 pub mod OnePlanAnswer

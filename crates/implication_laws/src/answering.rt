@@ -10,9 +10,9 @@ ghost use Rattle.headed_rows.specs.Headings.{HeadedRows};
 ghost use Rattle.desk_implication.specs.Bases.{GivesBasis};
 ghost use Rattle.desk_implication.specs.Certificates.{ChecksProof};
 ghost use Rattle.desk_implication.specs.Closures.{GivesClosure};
-ghost use Rattle.desk_covers.specs.CoverChecks.{ChecksCover};
+ghost use Rattle.desk_covers.specs.CoverChecks.{ChecksCanonicalCover, ChecksCover};
 ghost use Rattle.desk_covers.specs.CoverReasons.{ExplainsCover};
-ghost use Rattle.desk_covers.specs.Covering.{GivesCover};
+ghost use Rattle.desk_covers.specs.Covering.{GivesCanonicalCover, GivesCover};
 ghost use Rattle.desk_implication.specs.Derivations.{ChecksDerivation};
 ghost use Rattle.desk_discovery.specs.Discoveries.{FindsRules, FindsSmallRules, RefusesRules};
 ghost use Rattle.desk_discovery.specs.AllDiscoveries.{FindsAllRules};
@@ -50,9 +50,10 @@ pub fn check_derivation_has_one_answer()
         → AllowsOne (ChecksDerivation schema lines goal) }
 {}
 
-/// `cover` has one answer.
+/// `cover` has one answer, and so has `cover canonical`.
 pub fn cover_has_one_answer()
     ensures law { (schema : Schema) → AllowsOne (GivesCover schema) }
+    ensures canonical { (schema : Schema) → AllowsOne (GivesCanonicalCover schema) }
 {}
 
 /// `basis` has one answer to a set.
@@ -81,10 +82,12 @@ pub fn check_key_has_one_answer()
     ensures law { (schema : Schema) (set : List ℕ) → AllowsOne (ChecksKey schema set) }
 {}
 
-/// `check cover` has one answer.
+/// `check cover` has one answer, and so has `check cover canonical`.
 pub fn check_cover_has_one_answer()
     ensures law { (schema other : Schema) (file other_file : List ℕ)
         → AllowsOne (ChecksCover schema other file other_file) }
+    ensures canonical { (schema other : Schema) (file other_file : List ℕ)
+        → AllowsOne (ChecksCanonicalCover schema other file other_file) }
 {}
 
 /// `explain cover` and `explain keys` have one answer.

@@ -31,13 +31,17 @@ pub use discovering::{few_columns_are_answered, found_texts_mean_their_schema};
 pub use exhibiting::{
     exhibits_are_legal, exhibits_decide_goals, rules_of_exhibits_are_answered_alike,
 };
-pub use explaining::undetermined_attributes_are_in_every_key;
+pub use explaining::{
+    explained_goals_are_accepted, explained_goals_are_decided,
+    undetermined_attributes_are_in_every_key,
+};
 pub use implying::{
     accepted_goals_are_implied, legal_rows_obey_implied_goals, yes_and_no_exclude_each_other,
 };
 pub use projecting::printed_projections_mean_their_part;
 pub use rewriting::{
-    covers_are_answered_alike, line_order_is_free, same_legal_relations_are_answered_alike,
+    covers_are_answered_alike, line_order_is_free, printed_covers_are_confirmed,
+    same_legal_relations_are_answered_alike,
 };
 pub use uniqueness::{
     one_basis, one_fixed_canonical_cover, one_fixed_cover, one_fixed_whole_cover, one_greedy_key,
