@@ -11,6 +11,6 @@ mod covers;
 mod sameness;
 
 pub use cover_checks::check_cover;
-pub use cover_reasons::explain_cover;
+pub use cover_reasons::{explain_cover, print_cover_reasons};
 pub use covers::cover;
 pub use sameness::check_same;

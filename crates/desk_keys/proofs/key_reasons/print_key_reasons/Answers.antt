@@ -1,4 +1,4 @@
--- What is left to prove of `reason_lines`: what `print_reasons` requires, and its clause.
+-- What is left to prove of `print_key_reasons`: what `print_reasons` requires, and its clause.
 use Rattle.std.proofs.Common.{◌≡◌, ◌↔◌, ℕ, true, false, List, get_or, sym, ap, subst, ◌∙◌, inl, inr}
 use Rattle.std.proofs.lemmas.Bool.{cases_Bool, true≢false, lt-ltb, ltb-true}
 use Rattle.std.proofs.lemmas.List.Elements.{All-contains}
@@ -10,7 +10,7 @@ use Rattle.schema_model.specs.Schemas.{width_of, theory_of, universe_of}
 use Rattle.schema_model.specs.Schemas.{Schema}
 use Rattle.key_listing.specs.Listing.{AreAllKeys}
 use Rattle.desk_keys.specs.KeyReasons.{InEveryKey, InNoKey}
-use Rattle.desk_keys.proofs.key_reasons.reason_lines.Goals as goal
+use Rattle.desk_keys.proofs.key_reasons.print_key_reasons.Goals as goal
 
 module _ (s : Schema) (keys : List AttrSet) (are : AreAllKeys (width_of s) (theory_of s) (universe_of s) keys) (a : ℕ) where
   in_every : ((below (width_of s) a ≡ true) × All (λ set. attributes set a ≡ true) keys) ↔ InEveryKey s a
