@@ -50,12 +50,7 @@ fn put_rules(alloc: Global, text: &mut Vec<u8>, schema: &Schema) -> Result<(), O
 }
 
 // Adds a dependency, which says whether it follows from the others.
-fn put_rule(
-    alloc: Global,
-    text: &mut Vec<u8>,
-    schema: &Schema,
-    k: usize,
-) -> Result<(), OutOfMemory>
+fn put_rule(alloc: Global, text: &mut Vec<u8>, schema: &Schema, k: usize) -> Result<(), OutOfMemory>
     requires position { k < length (deps_of schema.now) }
     ensures added { OnOk result (Adds (ShowsRule schema.now k) text.old.items text.new.items) }
 {
