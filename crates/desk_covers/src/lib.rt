@@ -12,6 +12,6 @@ mod covers;
 mod sameness;
 
 pub use cover_checks::{check_canonical_cover, check_cover};
-pub use cover_reasons::explain_cover;
+pub use cover_reasons::{explain_cover, print_cover_reasons};
 pub use covers::{cover, cover_canonically};
 pub use sameness::check_same;
