@@ -1,5 +1,4 @@
 -- References that follow from others.
-use Rattle.std.specs.Prelude.{Contains}
 use Rattle.std.specs.List.{list_all}
 use Rattle.std.proofs.Common.{◌≡◌, ℕ, true, List, ap, ◌∙◌}
 use Rattle.dep_model.specs.Tuples.{Tuple}

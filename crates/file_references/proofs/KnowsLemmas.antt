@@ -1,19 +1,18 @@
 -- The targets of a file, one set of columns after the other, and one size after the other.
-use Rattle.std.specs.Prelude.{◌↔◌, All, Any, Contains, IsTrue, MatchBool}
-use Rattle.std.proofs.Common.{inl, inr, ◌≡◌, ◌+◌, ◌<◌, ◌≤◌, ◌⊎◌, ℕ, zero, suc, Bool, true, false, List, [], ◌∷◌, ◌++◌, length, take, get_or, Some, refl, sym, ap, subst, ◌∙◌, ⊎_elim, arith}
+use Rattle.std.specs.Prelude.{◌↔◌, Any, Contains, IsTrue, MatchBool}
+use Rattle.std.proofs.Common.{inl, inr, ◌≡◌, ◌+◌, ◌<◌, ◌≤◌, ◌⊎◌, ℕ, Bool, true, false, List, [], ◌∷◌, ◌++◌, length, take, get_or, Some, refl, sym, ap, subst, ◌∙◌, ⊎_elim, arith}
 use Rattle.std.proofs.lemmas.List.Elements.{AllZip-get_or, length_all_zip}
 use Rattle.std.proofs.lemmas.List.{take_more}
-use Rattle.attr_sets.specs.Attributes.{Attributes, IsSubset, below}
+use Rattle.attr_sets.specs.Attributes.{Attributes, IsSubset}
 use Rattle.attr_sets.specs.Sets.{attributes}
 use Rattle.attr_sets.specs.declared.set.AttrSet.{AttrSet}
 use Rattle.attr_sets.specs.declared.set.TheConstants.{MOST_ATTRIBUTES}
 use Rattle.dep_model.specs.Projections.{members_below}
 use Rattle.dep_model.specs.Tuples.{Relation, IsOver}
 use Rattle.dep_model.proofs.ListLemmas.{same_default}
-use Rattle.dep_model.proofs.SchemeLemmas.{length-members_below}
 use Rattle.fd_search.specs.Keys.{IsRowKey}
 use Rattle.file_references.specs.Columns.{file_at, name_at}
-use Rattle.file_references.specs.Finds.{Adds, AreLookedIn, AreNamedAs, IsLookedIn, IsTargetOf, IsTo, KnowsTargets, MayRefer, RefersTo, RefersToOne}
+use Rattle.file_references.specs.Finds.{Adds, AreLookedIn, IsLookedIn, IsTargetOf, IsTo, KnowsTargets, MayRefer, RefersTo, RefersToOne}
 use Rattle.file_references.specs.Keys.{AreValues, HoldsKey, IsWholeKey}
 use Rattle.file_references.specs.References.{AreNamesakes, HasTwoRows, IsOneColumn, IsReference, IsTarget, Reference}
 use Rattle.file_references.specs.declared.reference.TheConstants.{MOST_KEY_COLUMNS}
@@ -22,7 +21,7 @@ use Rattle.file_references.proofs.AddLemmas.{adds_fewer, adds_none}
 use Rattle.file_references.proofs.PromisingLemmas.{may_refer}
 use Rattle.file_references.proofs.SetLemmas.{member_of}
 use Rattle.file_references.proofs.SourceLemmas.{all_named_low}
-use Rattle.file_references.proofs.TargetLemmas.{adds_key, known_at_first, known_key, known_next, known_other, looked_more, looked_one, new_key, new_target, target_known}
+use Rattle.file_references.proofs.TargetLemmas.{adds_key, known_at_first, known_key, known_next, known_other, new_key, new_target, target_known}
 use Rattle.headed_rows.specs.Headings.{HeadedRows}
 use Rattle.schema_model.specs.Schemas.{attribute_named}
 use Rattle.table_join.specs.Lent.{tuples_of}

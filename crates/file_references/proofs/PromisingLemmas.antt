@@ -1,8 +1,8 @@
 -- Columns to which others may refer: sets of lent values, and rows that miss nothing.
-use Rattle.std.specs.Prelude.{All, Any, Contains, position}
-use Rattle.std.specs.List.{list_all, list_any, position_or_len}
+use Rattle.std.specs.Prelude.{All, Contains}
+use Rattle.std.specs.List.{list_any, position_or_len}
 use Rattle.std.specs.Cmp.Lexicographic.{pointwise}
-use Rattle.std.proofs.Common.{◌≡◌, ◌+◌, ◌<◌, ℕ, zero, suc, nat_eq, Bool, true, false, true≢false, inl, inr, List, [], ◌∷◌, ◌++◌, Bor, Some, length, map, get_or, refl, sym, ap, subst, ◌∙◌, ⊎_elim, arith}
+use Rattle.std.proofs.Common.{◌≡◌, ◌+◌, ◌<◌, ℕ, zero, suc, nat_eq, Bool, true, false, true≢false, inl, inr, List, [], ◌∷◌, ◌++◌, Bor, Some, length, get_or, refl, sym, ap, subst, ◌∙◌, ⊎_elim, arith}
 use Rattle.std.proofs.lemmas.Bool.{and_parts, cases_lt}
 use Rattle.std.proofs.lemmas.List.{get_or-map}
 use Rattle.std.proofs.lemmas.List.Elements.{All-contains, Contains-append_left, Contains-push}

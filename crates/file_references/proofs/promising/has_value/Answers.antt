@@ -1,5 +1,5 @@
 -- What is left to prove of `has_value`: what it answers, by `found_value` and `lacking_value`.
-use Rattle.std.proofs.Common.{◌≡◌, is_some, true, false, true≢false, ap, sym, refl, ◌∙◌}
+use Rattle.std.proofs.Common.{is_some, true≢false, ap, sym, refl, ◌∙◌}
 use Rattle.file_references.proofs.PromisingLemmas.{found_value, lacking_value}
 use Rattle.file_references.proofs.promising.has_value.Goals as goal
 

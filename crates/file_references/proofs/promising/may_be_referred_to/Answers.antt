@@ -1,7 +1,6 @@
 -- What is left to prove of `may_be_referred_to`: that a round of its loop keeps the invariant, and what it answers, by
 -- `PromisingLemmas`.
-use Rattle.std.proofs.Common.{◌≡◌, ◌<◌, [], ap, get_or, length, map, subst, sym, ◌∙◌, arith}
-use Rattle.std.proofs.lemmas.List.{length-map}
+use Rattle.std.proofs.Common.{◌<◌, [], ap, get_or, length, map, subst, sym, ◌∙◌, arith}
 use Rattle.dep_model.proofs.ListLemmas.{same_default}
 use Rattle.headed_rows.specs.Headings.{HeadedRows, headed_of}
 use Rattle.table_join.specs.Lent.{lent_values}

@@ -5,7 +5,6 @@ use Rattle.std.proofs.lemmas.List.{length-map}
 use Rattle.dep_model.proofs.ListLemmas.{same_default}
 use Rattle.file_references.specs.Columns.{file_at}
 use Rattle.file_references.specs.Finds.{Adds, RefersFromColumns, reference_of}
-use Rattle.file_references.specs.References.{Reference}
 use Rattle.file_references.proofs.AddLemmas.{counted, file_at_or, still_references}
 use Rattle.file_references.proofs.SourceLemmas.{columns_all, columns_more, columns_same, one_candidate}
 use Rattle.headed_rows.specs.Headings.{HeadedRows, headed_of}

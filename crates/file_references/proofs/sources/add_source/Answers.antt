@@ -1,5 +1,5 @@
 -- What is left to prove of `add_source`: its clause `added`, where the reference holds and where it does not.
-use Rattle.std.proofs.Common.{true≢false, ◌≡◌, List, ℕ, map, refl, ap, sym, subst, ◌∙◌}
+use Rattle.std.proofs.Common.{true≢false, List, ℕ, map, refl, sym, subst, ◌∙◌}
 use Rattle.file_references.specs.Finds.{Adds, AreReferences, IsThis, reference_of, refers_from}
 use Rattle.file_references.specs.References.{IsCandidate, IsReference}
 use Rattle.file_references.specs.declared.reference.FoundReference.{FoundReference}

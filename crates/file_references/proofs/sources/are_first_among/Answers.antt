@@ -1,6 +1,6 @@
 -- What is left to prove of `are_first_among`: what it answers at a row whose values are not among these, by
 -- `SourceLemmas`.
-use Rattle.std.proofs.Common.{true≢false, ◌≡◌, List, ℕ, Bor, length, ap, sym, subst, ◌∙◌, arith}
+use Rattle.std.proofs.Common.{true≢false, List, ℕ, Bor, ap, sym, subst, ◌∙◌, arith}
 use Rattle.std.specs.List.{list_all}
 use Rattle.std.specs.Prelude.{Contains}
 use Rattle.row_store.specs.Rows.{row_at}

@@ -1,8 +1,8 @@
 -- What is left to prove of `refers`: its clause `refers`, by `FollowLemmas` and `SourceLemmas`.
-use Rattle.std.proofs.Common.{◌≡◌, true≢false, List, map, refl, ap, sym, ◌∙◌}
+use Rattle.std.proofs.Common.{true≢false, map, refl, ap, sym, ◌∙◌}
 use Rattle.std.proofs.lemmas.Result.{IfOk-weaker}
 use Rattle.std.specs.Prelude.{◌↔◌, Bool, IsTrue}
-use Rattle.file_references.specs.Finds.{AllAre, reference_of, refers_from}
+use Rattle.file_references.specs.Finds.{reference_of, refers_from}
 use Rattle.file_references.specs.References.{IsReference}
 use Rattle.file_references.proofs.AddLemmas.{file_at_or}
 use Rattle.file_references.proofs.FollowLemmas.{what_follows}

@@ -1,12 +1,11 @@
 -- What is left to prove of `add_references_to`: what it asks of its callees, and its clause `added`, by `KnowsLemmas`.
-use Rattle.std.proofs.Common.{true≢false, ◌≡◌, ◌<◌, ◌≤◌, ℕ, List, [], get_or, length, map, ap, sym, subst, ◌∙◌, arith}
+use Rattle.std.proofs.Common.{true≢false, ◌≡◌, ◌<◌, ◌≤◌, length, map, ap, sym, subst, ◌∙◌, arith}
 use Rattle.std.proofs.lemmas.List.{length-map}
 use Rattle.std.proofs.lemmas.Result.{on_ok_weaker}
 use Rattle.attr_sets.specs.Attributes.{Attributes, IsSubset, below}
 use Rattle.attr_sets.specs.Sets.{attributes}
-use Rattle.attr_sets.specs.declared.set.AttrSet.{AttrSet}
 use Rattle.attr_sets.specs.declared.set.TheConstants.{MOST_ATTRIBUTES}
-use Rattle.dep_model.specs.Tuples.{IsOver, Relation}
+use Rattle.dep_model.specs.Tuples.{IsOver}
 use Rattle.file_references.specs.Columns.{file_at}
 use Rattle.file_references.specs.Finds.{AreReferences, reference_of}
 use Rattle.file_references.specs.Keys.{AreAllOfSize}

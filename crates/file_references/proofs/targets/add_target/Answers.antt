@@ -9,12 +9,11 @@ use Rattle.attr_sets.specs.Sets.{attributes}
 use Rattle.attr_sets.specs.declared.set.AttrSet.{AttrSet}
 use Rattle.attr_sets.specs.declared.set.TheConstants.{MOST_ATTRIBUTES}
 use Rattle.dep_model.specs.Projections.{members_below}
-use Rattle.dep_model.specs.Tuples.{IsOver, Relation}
+use Rattle.dep_model.specs.Tuples.{IsOver}
 use Rattle.dep_model.proofs.ListLemmas.{same_default}
 use Rattle.file_references.specs.Columns.{file_at}
-use Rattle.file_references.specs.Finds.{Adds, KnowsTargets, RefersTo, RefersToOne, reference_of}
+use Rattle.file_references.specs.Finds.{KnowsTargets, RefersTo, RefersToOne, reference_of}
 use Rattle.file_references.specs.References.{Reference}
-use Rattle.file_references.specs.Keys.{HoldsKey, IsWholeKey}
 use Rattle.file_references.specs.declared.targets.Target.{Target}
 use Rattle.file_references.proofs.AddLemmas.{adds_fewer, counted, file_at_or, still_references}
 use Rattle.file_references.proofs.KnowsLemmas.{is_new_key, is_target_of, knows_new, knows_same, moved_hold, moved_key, refers_to_set}

@@ -1,6 +1,6 @@
 -- What is left to prove of `add_targets`: that a round of its loop keeps the invariant, and what it answers, by
 -- `KnowsLemmas`.
-use Rattle.std.proofs.Common.{[], List, map, take, subst}
+use Rattle.std.proofs.Common.{List, map, take, subst}
 use Rattle.std.proofs.lemmas.List.{take_all}
 use Rattle.attr_sets.specs.declared.set.AttrSet.{AttrSet}
 use Rattle.file_references.specs.Finds.{KnowsTargets, reference_of}
