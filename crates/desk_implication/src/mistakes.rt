@@ -1,4 +1,4 @@
-ghost use Rattle.std.specs.Prelude.{◌≡◌, ◌++◌, All, IfOk, OnOk};
+ghost use Rattle.std.specs.Prelude.{◌≡◌, ◌++◌, All, IfOk, OnOk, codes};
 ghost use Rattle.std.specs.Fmt.{decimal};
 ghost use Rattle.schema_printer.specs.Spelling.{printed_names_of};
 ghost use Rattle.derivation.specs.Derivs.{step_of, pair_of};
@@ -87,16 +87,22 @@ fn put_mistake(
         ≡ text.old.items ++ mistake_text (printed_names_of schema.now) (mistake_of mistake)) }
 {
     match mistake {
-        Mistake::DoesNotApply(why) => {
-            let mut reason = Vec::new(alloc);
-            put_misuse(alloc, &mut reason, why)?;
-            put_pair(text, b" does not apply: ", &reason)
-        }
+        Mistake::DoesNotApply(why) => put_not_applying(alloc, text, why),
         Mistake::Gives(dep) => {
             add(text, b" gives ")?;
             add(text, &print_dep(alloc, schema, dep)?)
         }
     }
+}
+
+// That a rule does not apply, and why, at the end of a text.
+fn put_not_applying(alloc: Global, text: &mut Vec<u8>, why: Misuse) -> Result<(), OutOfMemory>
+    ensures added { OnOk result (text.new.items
+        ≡ text.old.items ++ (codes " does not apply: " ++ misuse_text why)) }
+{
+    let mut reason = Vec::new(alloc);
+    put_misuse(alloc, &mut reason, why)?;
+    put_pair(text, b" does not apply: ", &reason)
 }
 
 // Why a rule does not apply, at the end of a text.
