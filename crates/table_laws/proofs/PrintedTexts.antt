@@ -7,7 +7,7 @@ use Rattle.std.proofs.lemmas.Bool.{and_parts, cases_Bool, eqb-true}
 use Rattle.std.proofs.lemmas.Bool.Decides.{nat_tests}
 use Rattle.std.proofs.lemmas.List.{append_cancel_right}
 use Rattle.std.proofs.lemmas.List.Sums.{fold-append}
-use Rattle.csv.specs.Machine.{line_feed, next_record}
+use Rattle.csv.specs.Machine.{next_record}
 use Rattle.csv.specs.Reading.{default_config, is_bom, records_from, strip_bom}
 use Rattle.csv.specs.Writing.{default_writer, escaped, field_text, fields_text, is_blank, needs_byte, read_back, row_text}
 use Rattle.csv.specs.declared.parser.State.TheVariants as st
@@ -99,7 +99,7 @@ record IsPartedAt (field text : List ℕ) : Type 0 where
 
 row_parted : (name : List ℕ) (values : List (List ℕ)) (more : List ℕ)
     → IsPartedAt (field_text default_writer name) (row_text default_writer (name ∷ values) ++ more)
-unfolding fields_text is_blank line_feed
+unfolding fields_text is_blank
 row_parted name [] more = by (is_blank default_writer (name ∷ [])) refl
   where
     field : List ℕ
