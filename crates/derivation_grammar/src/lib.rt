@@ -15,6 +15,7 @@
 mod laws;
 mod line_rule;
 
+pub use derivation::MOST_NODES;
 pub use laws::{
     certificate_is_derivation, derivation_reading, derivation_refusal, derived_is_implied,
     derives_by_lines, each_line_is_implied, line_meaning, line_refusal, one_outcome,

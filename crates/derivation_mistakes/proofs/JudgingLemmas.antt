@@ -64,14 +64,14 @@ turn_at n (l ∷ ls) (suc k) d are low =
     let there : n + 1 + k ≡ n + suc k = omega arith in
     subst (λ m. IsInTurn m (get_or ls k d)) there (turn_at (n + 1) ls k d are.1 (omega (arith, low)))
 
-pub next_earlier : (s : Schema) (all : List lines.DerivationLine) (k : ℕ) (d : lines.DerivationLine) (before : List Dep)
-    (found : List code.MistakenLine) → IsDerivation s (derivation_lines_of all) → k < length all → HasJudged s all k before found
-    → All (IsEarlier (length before)) (premises_of (derivation_line_of (get_or all k d)).body)
-next_earlier s all k d before found derivation low so_far =
+pub next_earlier : (s : Schema) (all : List lines.DerivationLine) (k : ℕ) (d : lines.DerivationLine) (now before : List Dep)
+    (found : List code.MistakenLine) → now ≡ before → IsDerivation s (derivation_lines_of all) → k < length all
+    → HasJudged s all k before found → All (IsEarlier (length now)) (premises_of (derivation_line_of (get_or all k d)).body)
+next_earlier s all k d now before found held derivation low so_far =
     let size = before_size s all k before found (omega (arith, low)) so_far in
     let turn = turn_at 0 (derivation_lines_of all) k (derivation_line_of d) derivation.1.in_turn
     (omega (arith, low, length-map all derivation_line_of)) in
-    let count : 0 + k ≡ length before = omega (arith, size) in
+    let count : 0 + k ≡ length now = omega (arith, size, ap length held) in
     subst (λ n. All (IsEarlier n) (premises_of (derivation_line_of (get_or all k d)).body)) count
     (subst (λ (l : DerivationLine). All (IsEarlier (0 + k)) (premises_of l.body))
     (get_or-map derivation_line_of all k d (derivation_line_of d) low) turn.premises)

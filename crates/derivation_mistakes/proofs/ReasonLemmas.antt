@@ -103,9 +103,9 @@ module _ (s : Schema) (before : List Dependency) (stated : Dependency) where
       left_holds : is_same (left_of stated) x ≡ true → (m : ℕ)
           → Hinders s before stated (by_decomposition p) (AnotherLeftSide m) → ⊥
       left_holds holds m fails =
-          let same : ◌≡◌ {A = Option Dependency} (Some (fd x y)) (Some fails.1) = sym at ∙ fails.2 in
-          let one : fd x y ≡ fails.1 = same_Some (fd x y) fails.1 same in
-          true≢false (sym holds ∙ ap (λ d. is_same (left_of stated) (left_of d)) one ∙ fails.3)
+          let same : ◌≡◌ {A = Option Dependency} (Some (fd x y)) (Some fails.1.0) = sym at ∙ fails.1.1 in
+          let one : fd x y ≡ fails.1.0 = same_Some (fd x y) fails.1.0 same in
+          true≢false (sym holds ∙ ap (λ d. is_same (left_of stated) (left_of d)) one ∙ fails.1.2)
 
       by_left : (b : Bool) → is_same (left_of stated) x ≡ b → (b && is_subset (right_of stated) y) ≡ false
           → IsMisuse s before stated (by_decomposition p) (if b then NotWithinRightSide p else AnotherLeftSide p)
@@ -200,7 +200,7 @@ module _ (s : Schema) (before : List Dependency) (stated : Dependency) where
       by_within : (b : Bool) → cond b (cond (is_disjoint v y) (Ok (fd x z)) (Err NotDisjoint)) (Err NotWithin) ≡ Err kind
           → IsMisuse s before stated body (pair_misuse before coalescence p q kind)
       by_within true inner = fault NotDisjoint (cond_err (is_disjoint v y) NotDisjoint kind (fd x z) inner).1 refl
-      by_within false refused = fault NotWithin cc refl
+      by_within false refused = let same : NotWithin ≡ kind = cc in fault NotWithin same refl
   pair_case coalescence p q (mvd x y) (mvd v z) kind e first second h =
       let body = by_rule (by_pair coalescence p q) in
       let same : WrongKind ≡ kind = cc in

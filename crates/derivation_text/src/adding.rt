@@ -7,7 +7,7 @@ ghost use Rattle.derivation_text.specs.Views.{body_of_line, derivation_line_of, 
 
 use crate::line::{DerivationBody, DerivationLine};
 use dep_model::Failure;
-use derivation::MOST_NODES;
+use derivation_grammar::MOST_NODES;
 use proof_grammar::ProofRefusalKind;
 use proof_text::Body;
 

@@ -1,10 +1,11 @@
-ghost use Rattle.std.specs.Prelude.{◌≡◌, ◌++◌, All, IfOk, OnOk};
+ghost use Rattle.std.specs.Prelude.{◌≡◌, ◌++◌, All, IfOk, OnOk, codes};
 ghost use Rattle.std.specs.Fmt.{decimal};
 ghost use Rattle.schema_printer.specs.Spelling.{printed_names_of};
 ghost use Rattle.derivation.specs.Derivs.{step_of, pair_of};
 ghost use Rattle.derivation_rules.specs.Views.{further_of};
 ghost use Rattle.derivation_grammar.specs.Meanings.{further_name};
 ghost use Rattle.derivation_text.specs.Views.{body_of_line};
+ghost use Rattle.derivation_mistakes.specs.declared.misuse.Misuse.TheVariants.{LeftSidesDiffer};
 ghost use Rattle.derivation_mistakes.specs.Views.{mistake_of, mistaken_line_of, mistaken_lines_of, IsMistakenLineOf, IsMistakeWithin};
 ghost use Rattle.desk_implication.specs.MistakeTexts.{follows_text, misuse_text, mistake_text, mistaken_line_text, mistaken_lines_text, pair_name, rule_text, step_name, with_number};
 
@@ -14,7 +15,7 @@ use derivation::{PairRule, StepRule};
 use derivation_mistakes::{Mistake, MistakenLine, Misuse};
 use derivation_rules::FurtherRule;
 use derivation_text::DerivationBody;
-use desk_texts::add_displayed;
+use desk_texts::{add_displayed, put_pair};
 use proof_text::Body;
 use schema_model::Schema;
 use schema_printer::print_dep;
@@ -32,32 +33,35 @@ pub fn mistaken_line_texts(
 {
     let mut text = Vec::new(alloc);
     for mistaken in found {
-        put_mistaken_line(alloc, &mut text, schema, mistaken)?;
+        add(&mut text, &mistaken_line_words(alloc, schema, mistaken)?)?;
     }
     Ok(text)
 }
 
-// A wrong line, at the end of a text.
-fn put_mistaken_line(
+// What is printed of one of them.
+fn mistaken_line_words(
     alloc: Global,
-    text: &mut Vec<u8>,
     schema: &Schema,
     mistaken: &MistakenLine,
-) -> Result<(), OutOfMemory>
-    requires within { IsMistakenLineOf schema.now mistaken.now }
-    ensures added { OnOk result (text.new.items
-        ≡ text.old.items ++ mistaken_line_text (printed_names_of schema.now) (mistaken_line_of mistaken.now)) }
+) -> Result<Vec<u8>, OutOfMemory>
+    requires of_schema { IsMistakenLineOf schema.now mistaken.now }
+    ensures text { IfOk result
+        (λ text. text.items
+        ≡ mistaken_line_text (printed_names_of schema.now) (mistaken_line_of mistaken.now)) }
 {
     let line = mistaken.line;
-    add(text, b"line ")?;
-    add_number(text, alloc, line.number)?;
-    add(text, b": ")?;
-    put_rule(alloc, text, line.body)?;
-    put_mistake(alloc, text, schema, mistaken.mistake)?;
-    add(text, b"\n  ")?;
-    add(text, &print_dep(alloc, schema, line.stated)?)?;
-    add(text, follows_words(mistaken.follows))?;
-    add(text, b"\n")
+    let mut text = Vec::new(alloc);
+    add(&mut text, b"line ")?;
+    add_number(&mut text, alloc, line.number)?;
+    add(&mut text, b": ")?;
+    put_rule(alloc, &mut text, line.body)?;
+    put_mistake(alloc, &mut text, schema, mistaken.mistake)?;
+    add(&mut text, b"\n")?;
+    add(&mut text, b"  ")?;
+    add(&mut text, &print_dep(alloc, schema, line.stated)?)?;
+    add(&mut text, follows_words(mistaken.follows))?;
+    add(&mut text, b"\n")?;
+    Ok(text)
 }
 
 // Whether what a line states follows.
@@ -83,10 +87,7 @@ fn put_mistake(
         ≡ text.old.items ++ mistake_text (printed_names_of schema.now) (mistake_of mistake)) }
 {
     match mistake {
-        Mistake::DoesNotApply(why) => {
-            add(text, b" does not apply: ")?;
-            put_misuse(alloc, text, why)
-        }
+        Mistake::DoesNotApply(why) => put_not_applying(alloc, text, why),
         Mistake::Gives(dep) => {
             add(text, b" gives ")?;
             add(text, &print_dep(alloc, schema, dep)?)
@@ -94,27 +95,30 @@ fn put_mistake(
     }
 }
 
+// That a rule does not apply, and why, at the end of a text.
+fn put_not_applying(alloc: Global, text: &mut Vec<u8>, why: Misuse) -> Result<(), OutOfMemory>
+    ensures added { OnOk result (text.new.items
+        ≡ text.old.items ++ (codes " does not apply: " ++ misuse_text why)) }
+{
+    let mut reason = Vec::new(alloc);
+    put_misuse(alloc, &mut reason, why)?;
+    put_pair(text, b" does not apply: ", &reason)
+}
+
 // Why a rule does not apply, at the end of a text.
 fn put_misuse(alloc: Global, text: &mut Vec<u8>, why: Misuse) -> Result<(), OutOfMemory>
     ensures added { OnOk result (text.new.items ≡ text.old.items ++ misuse_text why) }
 {
     match why {
-        Misuse::AnotherKind(m) => {
-            put_words(alloc, text, b"line ", m)?;
-            add(text, b" is of another kind")
-        }
+        Misuse::AnotherKind(m) => put_framed(alloc, text, b"line ", m, b" is of another kind"),
         Misuse::NotTheLeftSide(m, k) => {
-            put_words(alloc, text, b"the right side of ", m)?;
-            put_words(alloc, text, b" is not the left side of ", k)
+            let words = b" is not the left side of ";
+            put_two(alloc, text, b"the right side of ", m, words, k)
         }
-        Misuse::LeftSidesDiffer(m, k) => {
-            put_words(alloc, text, b"the left sides of ", m)?;
-            put_words(alloc, text, b" and ", k)?;
-            add(text, b" differ")
-        }
+        Misuse::LeftSidesDiffer(m, k) => put_left_sides(alloc, text, m, k),
         Misuse::NotWithinLeftSide(m, k) => {
-            put_words(alloc, text, b"the right side of ", m)?;
-            put_words(alloc, text, b" does not lie within the left side of ", k)
+            let words = b" does not lie within the left side of ";
+            put_two(alloc, text, b"the right side of ", m, words, k)
         }
         Misuse::AnotherLeftSide(m) => put_words(alloc, text, b"the left side is not that of ", m),
         Misuse::NotWithinRightSide(m) => {
@@ -127,6 +131,46 @@ fn put_misuse(alloc: Global, text: &mut Vec<u8>, why: Misuse) -> Result<(), OutO
         }
         Misuse::Fault(kind) => add_displayed(text, alloc, &kind),
     }
+}
+
+// That the left sides of two lines differ, at the end of a text.
+fn put_left_sides(alloc: Global, text: &mut Vec<u8>, m: u32, k: u32) -> Result<(), OutOfMemory>
+    ensures added { OnOk result (text.new.items ≡ text.old.items ++ misuse_text (LeftSidesDiffer m k)) }
+{
+    let mut words = Vec::new(alloc);
+    put_two(alloc, &mut words, b"the left sides of ", m, b" and ", k)?;
+    put_pair(text, &words, b" differ")
+}
+
+// Words, a number, words and a number, at the end of a text.
+fn put_two(
+    alloc: Global,
+    text: &mut Vec<u8>,
+    front: &[u8],
+    m: u32,
+    middle: &[u8],
+    k: u32,
+) -> Result<(), OutOfMemory>
+    ensures added { OnOk result (text.new.items
+        ≡ text.old.items ++ (front.now ++ decimal m ++ middle.now ++ decimal k)) }
+{
+    put_words(alloc, text, front, m)?;
+    put_words(alloc, text, middle, k)
+}
+
+// Words, a number and words, at the end of a text.
+fn put_framed(
+    alloc: Global,
+    text: &mut Vec<u8>,
+    front: &[u8],
+    number: u32,
+    back: &[u8],
+) -> Result<(), OutOfMemory>
+    ensures added { OnOk result (text.new.items
+        ≡ text.old.items ++ (front.now ++ decimal number ++ back.now)) }
+{
+    put_words(alloc, text, front, number)?;
+    add(text, back)
 }
 
 // Words and a number, at the end of a text.

@@ -17,7 +17,7 @@ last_stated-concluded-requires c = record {
 
 pub judged_response-requires-clause-found : goal.judged_response-requires-clause-found
 judged_response-requires-clause-found c =
-    subst (All (IsMistakenLineOf c.args.schema.now)) (sym c.deref.ensures.value) c.in_ok-mistaken_lines.ensures.of_schema
+    subst (All (IsMistakenLineOf c.args.schema.now)) (sym c.deref.ensures.value) c.in_ok-found.ensures.of_schema
 
 pub judged_response-requires-clause-concluded : goal.judged_response-requires-clause-concluded
 judged_response-requires-clause-concluded c =
@@ -29,7 +29,7 @@ judged_response-requires-clause-implied c = λ none.
     let s = c.args.schema.now in
     let lines = derivation_lines_of c.args.lines.now in
     let there = subst (λ (found : List MistakenLine). mistakes.AreMistakenLines s [] lines (mistaken_lines_of found)) (sym c.deref.ensures.value)
-    c.in_ok-mistaken_lines.ensures.exact in
+    c.in_ok-found.ensures.exact in
     last_is_implied s lines (dependency_of c.last_stated-concluded.result) c.requires.derivation
     c.last_stated-concluded.ensures.last
     (subst (λ (found : List mistakes.MistakenLine). mistakes.AreMistakenLines s [] lines found) none there)
