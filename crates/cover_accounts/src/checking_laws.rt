@@ -9,8 +9,8 @@ ghost use Rattle.cover_accounts.specs.CoverDiagnostics.{IsCoverDiagnostic, AreCo
 ghost use Rattle.cover_accounts.specs.declared.diagnostic.CoverDiagnostic.{CoverDiagnostic};
 ghost use Rattle.cover_accounts.specs.declared.diagnostic.CoverForm.TheVariants.{Minimal};
 
-/// A cover of `min_cover` has no diagnostic of a minimal cover: its functional part is a minimal cover, and none of its
-/// multivalued dependencies follows from the rest.
+/// A cover of `min_cover` has no diagnostic of a minimal cover: its functional part is a minimal cover, and
+/// none of its multivalued dependencies follows from the rest.
 pub fn covers_have_no_diagnostic()
     ensures law { (n : ℕ) (ds whole : List Dependency) (one : CoverDiagnostic)
         → IsMinimalCover n ds (functional_part whole) → IsWholeCover n ds whole

@@ -1,17 +1,20 @@
-//! The laws of what `check cover` and `check cover canonical` say yes to.
+//! The laws of canonical covers, and of what `check cover` and `check cover canonical` say yes to.
 
 ghost use Rattle.std.specs.Prelude.{◌≡◌, ◌↔◌, ℕ, List, []};
 ghost use Rattle.canonical_cover.specs.Canonical.{IsCanonicalCover};
 ghost use Rattle.cover_accounts.specs.CoverDiagnostics.{AreCoverDiagnostics};
 ghost use Rattle.cover_accounts.specs.declared.diagnostic.CoverForm.TheVariants.{Minimal, Canonical};
-ghost use Rattle.dep_model.specs.Dependencies.{functional_part};
+ghost use Rattle.canonical_cover.specs.Merging.{merge_left_sides};
+ghost use Rattle.dep_model.specs.Dependencies.{Dependency, functional_part};
 ghost use Rattle.min_cover.specs.Covers.{IsMinimalCover};
 ghost use Rattle.schema_match.specs.Carried.{HaveSameLegalRelations};
 ghost use Rattle.schema_match.specs.Columns.{SameNames};
 ghost use Rattle.schema_model.specs.Schemas.{width_of, theory_of};
 ghost use Rattle.schema_model.specs.Schemas.{Schema};
 ghost use Rattle.desk_covers.specs.CoverChecks.{ChecksCanonicalCover, ChecksCover};
-ghost use Rattle.desk_responses.specs.ResponseValues.{ResponseValue};
+ghost use Rattle.desk_covers.specs.Covering.{GivesCanonicalCover, GivesCover};
+ghost use Rattle.schema_printer.specs.Printing.{schema_text};
+ghost use Rattle.desk_responses.specs.ResponseValues.{ResponseValue, Says};
 ghost use Rattle.desk_responses.specs.declared.status.Status.TheVariants.{Yes};
 ghost use Rattle.implication_laws.specs.Minimality.{IsCanonicalByKind, IsMinimalByKind};
 
@@ -44,4 +47,13 @@ pub fn canonical_covers_are_confirmed()
     ensures functional { (schema : Schema) → functional_part (theory_of schema) ≡ theory_of schema
         → IsCanonicalByKind schema
         ↔ IsCanonicalCover (width_of schema) (theory_of schema) (theory_of schema) }
+{}
+
+/// What `cover canonical` prints is what `cover` prints, in which the functional dependencies of one left side
+/// stand as one, at the place of the first, with all their right sides.
+pub fn canonical_covers_are_merged_covers()
+    ensures law { (schema : Schema) (plain canonical : ResponseValue) → GivesCover schema plain
+        → GivesCanonicalCover schema canonical
+        → (whole : List Dependency) × Says Yes (schema_text schema whole) plain
+        × Says Yes (schema_text schema (merge_left_sides whole)) canonical }
 {}

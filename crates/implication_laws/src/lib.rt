@@ -26,7 +26,10 @@ pub use answering::{
     discover_small_has_one_answer, exhibit_has_one_answer, explanations_have_one_answer,
     implies_has_one_answer, keys_has_one_answer, project_has_one_answer,
 };
-pub use covering::{canonical_covers_are_confirmed, minimal_covers_are_confirmed};
+pub use covering::{
+    canonical_covers_are_confirmed, canonical_covers_are_merged_covers,
+    minimal_covers_are_confirmed,
+};
 pub use discovering::found_texts_mean_their_schema;
 pub use exhibiting::{
     exhibits_are_legal, exhibits_decide_goals, rules_of_exhibits_are_answered_alike,

@@ -1,6 +1,6 @@
 -- The records of a printed text of rows, whatever the names of its columns, but for names that begin with a
 -- byte-order mark.
-use Rattle.std.proofs.Common.{◌≡◌, ◌+◌, ◌<◌, ◌==◌, ◌&&◌, ℕ, zero, suc, Bool, true, false, List, [], ◌∷◌, ◌++◌, length, Option, Some, None, IsTrue, refl, sym, ap, subst, ◌∙◌, ⊎_elim, inl, inr, append_assoc, arith}
+use Rattle.std.proofs.Common.{◌≡◌, ◌+◌, ◌<◌, ◌==◌, ◌&&◌, ℕ, zero, suc, Bool, true, false, List, [], ◌∷◌, ◌++◌, length, Option, Some, None, IsTrue, refl, sym, ap, subst, ◌∙◌, ⊎_elim, inl, inr, append-nil, append_assoc, arith}
 use Rattle.std.specs.Prelude.{All, if◌then◌else◌}
 use Rattle.std.specs.List.{fold, list_any}
 use Rattle.std.proofs.lemmas.Bool.{and_parts, cases_Bool, eqb-true}
@@ -100,23 +100,24 @@ record IsPartedAt (field text : List ℕ) : Type 0 where
 row_parted : (name : List ℕ) (values : List (List ℕ)) (more : List ℕ)
     → IsPartedAt (field_text default_writer name) (row_text default_writer (name ∷ values) ++ more)
 unfolding fields_text is_blank
-row_parted name [] more =
-    by (is_blank default_writer (name ∷ [])) refl
+row_parted name [] more = by (is_blank default_writer (name ∷ [])) refl
   where
+    field : List ℕ
+    field = field_text default_writer name
+
+    at : (end : List ℕ) → ((field ++ []) ++ end) ++ more ≡ field ++ (end ++ more)
+    at end = append_assoc (field ++ []) end more ∙ ap (λ (text : List ℕ). text ++ (end ++ more)) (append-nil field)
+
+    ended_by : (b : Bool) → is_blank default_writer (name ∷ []) ≡ b
+        → row_text default_writer (name ∷ []) ++ more ≡ field ++ (((if b then 34 ∷ 34 ∷ [] else []) ++ 10 ∷ []) ++ more)
+    ended_by b is =
+        ap (λ (blank : Bool). ((field ++ []) ++ ((if blank then 34 ∷ 34 ∷ [] else []) ++ 10 ∷ [])) ++ more) is
+        ∙ at ((if b then 34 ∷ 34 ∷ [] else []) ++ 10 ∷ [])
+
     by : (b : Bool) → is_blank default_writer (name ∷ []) ≡ b
         → IsPartedAt (field_text default_writer name) (row_text default_writer (name ∷ []) ++ more)
-    by true blank = record {
-      byte = 34;
-      rest = 34 ∷ 10 ∷ more;
-      plain = (refl, refl, refl);
-      all = (rw blank refl);
-    }
-    by false full = record {
-      byte = 10;
-      rest = more;
-      plain = (refl, refl, refl);
-      all = (rw full refl);
-    }
+    by true blank = record { byte = 34; rest = 34 ∷ 10 ∷ more; plain = (refl, refl, refl); all = ended_by true blank }
+    by false full = record { byte = 10; rest = more; plain = (refl, refl, refl); all = ended_by false full }
 row_parted name (value ∷ values) more = record {
   byte = 44;
   rest = _;

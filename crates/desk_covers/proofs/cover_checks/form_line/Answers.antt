@@ -1,5 +1,5 @@
 -- What is left to prove of `form_line`: its clause, by `functional_told`.
-use Rattle.std.proofs.Common.{◌≡◌, ℕ, List, ◌++◌, Bool, ap, subst, sym, ◌∙◌, append-nil}
+use Rattle.std.proofs.Common.{◌≡◌, ℕ, List, [], ◌++◌, Bool, ap, subst, sym, ◌∙◌, append-nil}
 use Rattle.std.specs.Prelude.{IfOk, codes}
 use Rattle.desk_covers.specs.CoverChecks.{form_words}
 use Rattle.desk_covers.proofs.KindLemmas.{functional_told}
@@ -11,6 +11,6 @@ returns c =
     let told = functional_told c.args.schema.now c.is_functional.result (rw (c.deps.ensures.deps) at c.is_functional.ensures.functional) in
     let words = c.form_words-words.ensures.words ∙ ap (form_words c.args.form) (sym told) in
     record {
-      text = subst (λ (t : List ℕ). IfOk c.line_of.result (λ text. text.items ≡ line t)) (append-nil c.form_words-words.result.now ∙ words)
+      text = subst (λ (t : List ℕ). IfOk c.line_of.result (λ text. text.items ≡ line t)) (append-nil (c.form_words-words.result.now ++ []) ∙ append-nil c.form_words-words.result.now ∙ words)
           c.line_of.ensures.line;
     }
