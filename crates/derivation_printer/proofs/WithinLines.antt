@@ -70,22 +70,22 @@ line_within s before stated (reasons.Leaf rule) all fit gives = record {
   body = leaf_body_within s rule;
   numbers = tt {0};
 }
-line_within s before stated (reasons.Step rule p) all fit (x, (stands, gives)) = record {
+line_within s before stated (reasons.Step rule p) all fit (x, stands, gives) = record {
   stated = step_within (theory_in s) (step_of rule) x (dependency_of stated) (step_own rule) (holds_at before p x all stands) gives;
   body = printed.step_within s (step_of rule) x (dependency_of stated) (step_own rule) gives;
   numbers = omega (arith, fit, slice_get_within before p x stands);
 }
-line_within s before stated (reasons.Pair rule p q) all fit (x, (y, (first, (second, gives)))) = record {
+line_within s before stated (reasons.Pair rule p q) all fit (x, y, first, second, gives) = record {
   stated = pair_within (theory_in s) _ x y (dependency_of stated) (holds_at before p x all first) (holds_at before q y all second) gives;
   body = tt {0};
   numbers = (omega (arith, fit, slice_get_within before p x first), omega (arith, fit, slice_get_within before q y second));
 }
-line_within s before stated (reasons.Decomposition p) all fit (x, (stands, gives)) = record {
+line_within s before stated (reasons.Decomposition p) all fit (x, stands, gives) = record {
   stated = decomposition_within (universe_of s) (dependency_of stated) x (dependency_of stated) (right_own stated) (holds_at before p x all stands) gives;
   body = tt {0};
   numbers = omega (arith, fit, slice_get_within before p x stands);
 }
-line_within s before stated (reasons.Further rule p q) all fit (x, (y, (first, (second, gives)))) = record {
+line_within s before stated (reasons.Further rule p q) all fit (x, y, first, second, gives) = record {
   stated = further_within (universe_of s) _ x y (dependency_of stated) (holds_at before p x all first) (holds_at before q y all second) gives;
   body = tt {0};
   numbers = (omega (arith, fit, slice_get_within before p x first), omega (arith, fit, slice_get_within before q y second));
@@ -128,11 +128,11 @@ gives_outcome s before d (by_leaf (mreflexivity x y)) gives =
     let passed = cond-ok (is_subset x (universe_of s) && is_subset y x) NotWithin (mvd x y) d gives in
     subst (λ (e : Dependency). outcome_of_line s before e (body_of (by_leaf (mreflexivity x y))) ≡ Some (Ok e)) passed.1
     (ap Some (gives ∙ ap Ok (sym passed.1)))
-gives_outcome s before d (by_step rule p) (x, (stands, gives)) = rw (stated_next before p x stands) (ap Some gives)
-gives_outcome s before d (by_pair rule p q) (x, (y, (first, (second, gives)))) =
+gives_outcome s before d (by_step rule p) (x, stands, gives) = rw (stated_next before p x stands) (ap Some gives)
+gives_outcome s before d (by_pair rule p q) (x, y, first, second, gives) =
     rw (stated_next before p x first, stated_next before q y second) (ap Some gives)
-gives_outcome s before d (by_decomposition p) (x, (stands, gives)) = rw (stated_next before p x stands) (ap Some gives)
-gives_outcome s before d (by_further rule p q) (x, (y, (first, (second, gives)))) =
+gives_outcome s before d (by_decomposition p) (x, stands, gives) = rw (stated_next before p x stands) (ap Some gives)
+gives_outcome s before d (by_further rule p q) (x, y, first, second, gives) =
     rw (stated_next before p x first, stated_next before q y second) (ap Some gives)
 
 pub lines_derived : (s : Schema) (before : List Dependency) (lines : List Line) → AreGiven (theory_in s) before lines

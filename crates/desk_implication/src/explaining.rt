@@ -1,9 +1,11 @@
-ghost use Rattle.std.specs.Prelude.{◌++◌, ◌≤◌, List, IfOk};
+ghost use Rattle.std.specs.Prelude.{◌++◌, ◌≤◌, [], List, IfOk, length};
 ghost use Rattle.dep_model.specs.Deps.{dependency_of, IsDepWithin};
-ghost use Rattle.schema_model.specs.Schemas.{universe_of};
+ghost use Rattle.schema_model.specs.Schemas.{universe_of, theory_in};
 ghost use Rattle.derivation.specs.Derivs.{tree_of};
+ghost use Rattle.derivation.specs.declared.measures.TheConstants.{MOST_NODES};
 ghost use Rattle.derivation_printer.specs.Printing.{derivation_text};
-ghost use Rattle.short_derivations.specs.Inferences.{Line};
+ghost use Rattle.short_derivations.specs.Inferences.{Line, AreGiven};
+ghost use Rattle.short_derivations.specs.Views.{lines_of};
 ghost use Rattle.desk_implication.specs.Explanations.{ExplainsGoal, ExplainsImplication, IsCertificateOf, IsExplanation};
 ghost use Rattle.desk_responses.specs.ResponseValues.{Says};
 ghost use Rattle.desk_responses.specs.Responses.{response_value, RespondsAs};
@@ -20,7 +22,7 @@ use desk_arguments::goal_of;
 use desk_responses::{EarlyExit, Response, Status};
 use desk_texts::line_of;
 use schema_model::Schema;
-use short_derivations::short_derivation;
+use short_derivations::{Inference, short_derivation};
 use short_proofs::prove_shortly;
 use std::alloc::Global;
 
@@ -70,7 +72,21 @@ fn derivation_response(
         × Says Status.Yes (yes_text ++ derivation_text schema.now lines) (response_value response)) }
 {
     let lines = short_derivation(alloc, &schema.theory(), dep, certificate)?;
+    lines_response(alloc, schema, &lines)
+}
+
+/// `yes`, and the lines of a derivation.
+fn lines_response(
+    alloc: Global,
+    schema: &Schema,
+    lines: &[Inference],
+) -> Result<Response, OutOfMemory>
+    requires given { AreGiven (theory_in schema.now) [] (lines_of lines.now) }
+    requires lines_within_limit { length lines.now ≤ MOST_NODES }
+    ensures response { IfOk result (λ response. Says Status.Yes
+        (yes_text ++ derivation_text schema.now (lines_of lines.now)) (response_value response)) }
+{
     let mut text = line_of(alloc, b"yes", b"", b"")?;
-    add(&mut text, &print_derivation(alloc, schema, &lines)?)?;
+    add(&mut text, &print_derivation(alloc, schema, lines)?)?;
     Ok(Response::with_text(Status::Yes, text))
 }

@@ -18,11 +18,13 @@ use Rattle.derivation.specs.Trees.{Tree, leaf, step, pair, given, reflexivity, m
 use Rattle.derivation.specs.Conclusions.{Proves}
 use Rattle.derivation.proofs.TreeLemmas.{nodes-pos}
 use Rattle.derivation.proofs.RuleTableLemmas.{some_of_ok, cond-ok}
+use Rattle.derivation.specs.declared.fault.FaultKind.{FaultKind}
 use Rattle.derivation.specs.declared.fault.FaultKind.TheVariants.{NoSuchGiven, NotWithin}
 use Rattle.std.proofs.lemmas.Bool.{and_parts}
 use Rattle.short_derivations.specs.Inferences.{Line, by_leaf, by_decomposition, Gives, AreGiven, EachIsUsed, NoneIsRepeated, givens_of}
 use Rattle.short_derivations.specs.Links.{given_line}
 use Rattle.short_derivations.specs.Short.{Concludes, IsGivenAlone, IsPartOfGiven, FollowsFunctionally, NoneIsSpared, SparesNone, IsThrifty, IsShortDerivation}
+use Rattle.short_derivations.specs.Emitted.{IsEmission}
 use Rattle.short_derivations.specs.Thrift.{IsThriftyOf, IsShortOf}
 use Rattle.short_derivations.proofs.NeededLemmas.{implies_part}
 use Rattle.short_derivations.proofs.PushedLines.{contains_at}
@@ -32,6 +34,9 @@ same_left x y v w e = cc
 
 same_right : (x y v w : Attributes) → fd x y ≡ fd v w → y ≡ w
 same_right x y v w e = cc
+
+never : (x y v w : Attributes) → mvd x y ≡ fd v w → ⊥
+never x y v w e = cc
 
 -- ---- one line
 -- a line alone, whatever it states
@@ -44,14 +49,14 @@ module _ (d : Dependency) (l : Line) (states : l.stated ≡ d) where
   used_alone k low = absurd (omega (arith, low))
 
   ends_alone : Concludes (l ∷ []) d
-  ends_alone = ([], (l, (refl, states)))
+  ends_alone = ([], l, refl, states)
 
 thrifty_one : (s : Theory) (d : Dependency) (k : ℕ) → IsThrifty s d (record { stated = d; why = by_leaf (given k) } ∷ [])
-thrifty_one s (fd x y) k follows = omega arith
+thrifty_one s (fd x y) k = λ follows. omega arith
 thrifty_one s (mvd x y) k = tt {0}
 
 spared_given : (s : Theory) (d : Dependency) (lines : List Line) → Contains (theory_of s) d → SparesNone s d lines
-spared_given s (fd x y) lines is new follows = absurd (new is)
+spared_given s (fd x y) lines is = λ new follows. absurd (new is)
 spared_given s (mvd x y) lines is = tt {0}
 
 -- the goal is given
@@ -154,11 +159,11 @@ short_cut s x y v z t k lines x_in y_in missing new is left inside proves y_belo
     let last : Line = record { stated = fd x y; why = by_decomposition 0 } in
     rw all (record {
       short = record {
-        given = (rw is refl, ((fd v z, (refl, rw (is_same-from x v (sym left), is_subset-from y z inside) (ap (λ (w : Attributes). Ok (fd w y)) left))), tt));
-        concludes = (first ∷ [], (last, (refl, refl)));
+        given = (rw is refl, ((fd v z, refl, rw (is_same-from x v (sym left), is_subset-from y z inside) (ap (λ (w : Attributes). Ok {E = FaultKind} (fd w y)) left)), tt));
+        concludes = (first ∷ [], last, refl, refl);
         used = λ j low.
             let zeroth : 0 ≡ j = omega (arith, low) in
-            record { by = last; at = 1; stands = refl; later = omega (arith, low); premise = (0, (omega arith, zeroth)) };
+            record { by = last; at = 1; stands = refl; later = omega (arith, low); premise = (0, omega arith, zeroth) };
         once = λ i j e earlier low.
             let zeroth : i ≡ 0 = omega (arith, earlier, low) in
             let first_one : j ≡ 1 = omega (arith, earlier, low) in
@@ -179,7 +184,7 @@ short_cut s x y v z t k lines x_in y_in missing new is left inside proves y_belo
 -- ---- other goals
 no_part_of : (s : Theory) (x y : Attributes) → ((z : Attributes) → Contains (theory_of s) (fd x z) → IsSubset y z → ⊥)
     → IsPartOfGiven s (fd x y) → ⊥
-no_part_of s x y none (v, (w, (z, (is, (one, inside))))) =
+no_part_of s x y none (v, w, z, is, one, inside) =
     none z (subst (λ (u : Attributes). Contains (theory_of s) (fd u z)) (sym (same_left x y v w is)) one)
     (subst (λ (u : Attributes). IsSubset u z) (sym (same_right x y v w is)) inside)
 
@@ -204,36 +209,34 @@ short_thrifty s x y most lines new no_part thrifty = record {
 -- a goal that needs multivalued dependencies
 pub short_mixed : (s : Theory) (x y : Attributes) (most : ℕ) (lines : List Line) → (Contains (theory_of s) (fd x y) → ⊥)
     → ((z : Attributes) → Contains (theory_of s) (fd x z) → IsSubset y z → ⊥) → (FollowsFunctionally s (fd x y) → ⊥)
-    → AreGiven s [] lines → Concludes lines (fd x y) → EachIsUsed lines → NoneIsRepeated lines → length lines ≤ most
-    → IsShortOf s (fd x y) most lines
-short_mixed s x y most lines new no_part mixed given concludes used once fits = record {
+    → IsEmission s (fd x y) most lines → IsShortOf s (fd x y) most lines
+short_mixed s x y most lines new no_part mixed emission = record {
   short = record {
-    given = given;
-    concludes = concludes;
-    used = used;
-    once = once;
+    given = emission.given;
+    concludes = emission.concludes;
+    used = emission.used;
+    once = emission.once;
     alone = λ c. absurd (new c);
     two = λ part. absurd (no_part_of s x y no_part part);
     spared = λ other follows. absurd (mixed follows);
     thrifty = λ follows. absurd (mixed follows);
   };
-  fits = fits;
+  fits = emission.fits;
 }
 
 -- a multivalued goal
 pub short_multivalued : (s : Theory) (x y : Attributes) (most : ℕ) (lines : List Line) → (Contains (theory_of s) (mvd x y) → ⊥)
-    → AreGiven s [] lines → Concludes lines (mvd x y) → EachIsUsed lines → NoneIsRepeated lines → length lines ≤ most
-    → IsShortOf s (mvd x y) most lines
-short_multivalued s x y most lines new given concludes used once fits = record {
+    → IsEmission s (mvd x y) most lines → IsShortOf s (mvd x y) most lines
+short_multivalued s x y most lines new emission = record {
   short = record {
-    given = given;
-    concludes = concludes;
-    used = used;
-    once = once;
+    given = emission.given;
+    concludes = emission.concludes;
+    used = emission.used;
+    once = emission.once;
     alone = λ c. absurd (new c);
-    two = λ part. cc;
+    two = λ part. absurd (never x y part.0 part.1 part.3);
     spared = tt {0};
     thrifty = tt {0};
   };
-  fits = fits;
+  fits = emission.fits;
 }

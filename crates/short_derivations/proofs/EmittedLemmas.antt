@@ -15,7 +15,7 @@ use Rattle.derivation.specs.Direct.{IsIn, IsBelow, NoneBelow, IsDirect}
 use Rattle.derivation.proofs.ConclusionLemmas.{Proves-one}
 use Rattle.derivation.proofs.TreeLemmas.{nodes-pos}
 use Rattle.short_derivations.specs.Inferences.{Line, by_leaf, by_step, by_pair, stated_by, Gives, AreGiven, IsUsed, EachIsUsed, NoneIsRepeated}
-use Rattle.short_derivations.specs.Emitted.{AreWritten, IsStatedOrPart, AreEmitted}
+use Rattle.short_derivations.specs.Emitted.{AreWritten, IsStatedOrPart, AreEmitted, IsEmission}
 use Rattle.short_derivations.specs.Short.{Concludes}
 use Rattle.short_derivations.proofs.PushedLines.{given_push, used_more, once_push, stated_push, stated_last, stands_more, stands_last, contains_at}
 
@@ -93,7 +93,7 @@ module _ (s : Theory) (t : Tree) (old mid : List Line) (l : Line) (added : List 
         ];
         few = omega (arith, long, few);
         parts = subst (All (λ (e : Dependency). IsStatedOrPart s t old e)) (sym (stated_push mid l))
-            (All-push (λ (e : Dependency). IsStatedOrPart s t old e) (stated_by mid) l.stated parts (inr (t, (inl refl, proves))));
+            (All-push (λ (e : Dependency). IsStatedOrPart s t old e) (stated_by mid) l.stated parts (inr (t, inl refl, proves)));
         last = inl (sym long);
       }
 
@@ -113,9 +113,9 @@ pub emitted_step : (s : Theory) (rule : Step) (t : Tree) (old mid all : List Lin
     → all ≡ mid ++ record { stated = d; why = by_step rule p } ∷ [] → AreEmitted s (step rule t) old at all
 emitted_step s rule t old mid all p at d x new before direct proves gives at_is all_is =
     let l : Line = record { stated = d; why = by_step rule p } in
-    let root : Proves s (step rule t) d = (x, (proves, gives)) in
+    let root : Proves s (step rule t) d = (x, proves, gives) in
     let states : slice_get (stated_by mid) p ≡ Some x = before.states x proves in
-    rw (all_is, at_is) (emitted_line s (step rule t) old mid l before.added before.whole before.written (x, (states, gives)) root
+    rw (all_is, at_is) (emitted_line s (step rule t) old mid l before.added before.whole before.written (x, states, gives) root
     (fresh_after s t old mid d before.parts new (λ u inside other. direct (step rule t) (inl refl) d root u (elim inside [
       | inl same ↦ inl same
       | inr below ↦ inr below
@@ -123,14 +123,14 @@ emitted_step s rule t old mid all p at d x new before direct proves gives at_is 
     (All-weaker (λ (e : Dependency). IsStatedOrPart s t old e) (λ (e : Dependency). IsStatedOrPart s (step rule t) old e)
     (λ e part. elim part [
       | inl stated ↦ inl stated
-      | inr w ↦ inr (w.0, (elim w.1 [
+      | inr w ↦ inr (w.0, elim w.1 [
         | inl same ↦ inr (inl same)
         | inr below ↦ inr (inr below)
-      ], w.2))
+      ], w.2)
     ]) (stated_by mid) before.parts)
     (λ k late low. elim (before.used k late low) [
       | inl is ↦ used_more mid (l ∷ []) k is
-      | inr same ↦ record { by = l; at = length mid; stands = stands_last mid l; later = low; premise = (0, (omega arith, sym same)) }
+      | inr same ↦ record { by = l; at = length mid; stands = stands_last mid l; later = low; premise = (0, omega arith, sym same) }
     ])
     (omega (arith, before.few)))
 
@@ -140,7 +140,7 @@ pub emitted_pair : (s : Theory) (rule : Pair) (t v : Tree) (old one mid all : Li
     → all ≡ mid ++ record { stated = d; why = by_pair rule p q } ∷ [] → AreEmitted s (pair rule t v) old at all
 emitted_pair s rule t v old one mid all p q at d x y new before after direct proves_x proves_y gives at_is all_is =
     let l : Line = record { stated = d; why = by_pair rule p q } in
-    let root : Proves s (pair rule t v) d = (x, (y, (proves_x, (proves_y, gives)))) in
+    let root : Proves s (pair rule t v) d = (x, y, proves_x, proves_y, gives) in
     let none = direct (pair rule t v) (inl refl) d root in
     let stated_mid : stated_by mid ≡ stated_by one ++ stated_by after.added =
         ap stated_by after.whole ∙ map-append (λ (m : Line). m.stated) one after.added in
@@ -155,7 +155,7 @@ emitted_pair s rule t v old one mid all p q at d x y new before after direct pro
     let longer : length one ≤ length mid = omega (arith, ap length after.whole, length-append one after.added) in
     rw (all_is, at_is) (emitted_line s (pair rule t v) old mid l (before.added ++ after.added)
     (after.whole ∙ ap (λ (ls : List Line). ls ++ after.added) before.whole ∙ append_assoc old before.added after.added)
-    after.written (x, (y, (first, (second, gives)))) root
+    after.written (x, y, first, second, gives) root
     (fresh_after s v one mid d after.parts new_one (λ u inside other. none u (inr (elim inside [
       | inl same ↦ inl same
       | inr below ↦ inr below
@@ -164,26 +164,26 @@ emitted_pair s rule t v old one mid all p q at d x y new before after direct pro
     (λ e c. elim (All-contains (λ (f : Dependency). IsStatedOrPart s v one f) (stated_by mid) e after.parts c) [
       | inl stated ↦ elim (All-contains (λ (f : Dependency). IsStatedOrPart s t old f) (stated_by one) e before.parts stated) [
         | inl stated_old ↦ inl stated_old
-        | inr w ↦ inr (w.0, (elim w.1 [
+        | inr w ↦ inr (w.0, elim w.1 [
           | inl same ↦ inr (inl (inl same))
           | inr below ↦ inr (inl (inr below))
-        ], w.2))
+        ], w.2)
       ]
-      | inr w ↦ inr (w.0, (elim w.1 [
+      | inr w ↦ inr (w.0, elim w.1 [
         | inl same ↦ inr (inr (inl same))
         | inr below ↦ inr (inr (inr below))
-      ], w.2))
+      ], w.2)
     ]))
     (λ k late low. elim (cases_lt k (length one)) [
       | inl less ↦ elim (before.used k late less) [
         | inl is ↦
             let in_mid : IsUsed mid k = subst (λ (ls : List Line). IsUsed ls k) (sym after.whole) (used_more one after.added k is) in
             used_more mid (l ∷ []) k in_mid
-        | inr same ↦ record { by = l; at = length mid; stands = stands_last mid l; later = low; premise = (0, (omega arith, sym same)) }
+        | inr same ↦ record { by = l; at = length mid; stands = stands_last mid l; later = low; premise = (0, omega arith, sym same) }
       ]
       | inr past ↦ elim (after.used k past low) [
         | inl is ↦ used_more mid (l ∷ []) k is
-        | inr same ↦ record { by = l; at = length mid; stands = stands_last mid l; later = low; premise = (1, (omega arith, sym same)) }
+        | inr same ↦ record { by = l; at = length mid; stands = stands_last mid l; later = low; premise = (1, omega arith, sym same) }
       ]
     ])
     (omega (arith, before.few, after.few)))
@@ -196,31 +196,27 @@ last_of [] k d states is = absurd (omega (arith, is))
 last_of (l ∷ []) k d states is =
     let zeroth : k ≡ 0 = omega (arith, is) in
     let one : slice_get (stated_by (l ∷ [])) 0 ≡ Some d = subst (λ (j : ℕ). slice_get (stated_by (l ∷ [])) j ≡ Some d) zeroth states in
-    ([], (l, (refl, cc)))
+    ([], l, refl, cc)
 last_of (l ∷ m ∷ ls) zero d states is = absurd (omega (arith, is))
 last_of (l ∷ m ∷ ls) (suc k) d states is =
     let rest = last_of (m ∷ ls) k d states (omega (arith, is)) in
-    (l ∷ rest.0, (rest.1, (ap (λ (all : List Line). l ∷ all) rest.2, rest.3)))
+    (l ∷ rest.0, rest.1, ap (λ (all : List Line). l ∷ all) rest.2, rest.3)
 
 pub emitted_all : (s : Theory) (t : Tree) (at : ℕ) (lines : List Line) (d : Dependency) → AreEmitted s t [] at lines → Proves s t d
-    → (before : List Line) × (last : Line) × (lines ≡ before ++ last ∷ []) × (last.stated ≡ d) × EachIsUsed lines
-emitted_all s t at lines d emitted proves = ends lines at (emitted.states d proves) number (λ k low. emitted.used k (omega arith) low)
-  where
-    number : at + 1 ≡ length lines
-    number = elim emitted.last [
+    → IsEmission s d (nodes t) lines
+emitted_all s t at lines d emitted proves =
+    let number : at + 1 ≡ length lines = elim emitted.last [
       | inl is ↦ is
       | inr none ↦ absurd (omega (arith, slice_get_within (stated_by lines) at d (emitted.states d proves), ap length (ap stated_by none)))
-    ]
-
-    each : (ls : List Line) (k : ℕ) → k + 1 ≡ length ls → ((j : ℕ) → j < length ls → IsUsed ls j ⊎ (j ≡ k)) → EachIsUsed ls
-    each ls k is used j low = elim (used j (omega (arith, low))) [
-      | inl by ↦ by
-      | inr same ↦ absurd (omega (arith, same, is, low))
-    ]
-
-    ends : (ls : List Line) (k : ℕ) → slice_get (stated_by ls) k ≡ Some d → k + 1 ≡ length ls
-        → ((j : ℕ) → j < length ls → IsUsed ls j ⊎ (j ≡ k))
-        → (before : List Line) × (last : Line) × (ls ≡ before ++ last ∷ []) × (last.stated ≡ d) × EachIsUsed ls
-    ends ls k states is used =
-        let cut = last_of ls k d states is in
-        (cut.0, (cut.1, (cut.2, (cut.3, each ls k is used))))
+    ] in
+    let cut = last_of lines at d (emitted.states d proves) number in
+    record {
+      given = emitted.written.given;
+      concludes = (cut.0, cut.1, cut.2, cut.3);
+      used = λ j low. elim (emitted.used j (omega arith) (omega (arith, low))) [
+        | inl by ↦ by
+        | inr same ↦ absurd (omega (arith, same, number, low))
+      ];
+      once = emitted.written.once;
+      fits = emitted.few;
+    }

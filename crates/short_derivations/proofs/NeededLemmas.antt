@@ -104,23 +104,24 @@ record HasLeaves (s : Theory) (x c : Attributes) (m : ℕ) (t : Tree) : Type 0 w
   obeyed : (r : Relation) → All (λ d. Obeys (width_of s) d r) (functional_leaves s t) → ObeysFd x c r
 
 reached_leaves : (s : Theory) (x y : Attributes) (m : ℕ) (a : Stage) → Reaches s x y m a → HasLeaves s x a.closed m a.tree
-reached_leaves s x y zero a is = rw is (record {
+reached_leaves s x y zero a is = subst (λ (b : Stage). HasLeaves s x b.closed 0 b.tree) (sym is) (record {
   count = refl;
   size = refl;
   obeyed = λ r all. reflexivity_obeyed x x r (λ j m. m);
 })
 reached_leaves s x y (suc m) a (b, k, t, reached, missing, out, is) =
     let before = reached_leaves s x y m b reached in
-    let leaves = functional_leaves s b.tree in
+    let leaves : List Dependency = functional_leaves s b.tree in
     let one : functional_one (slice_get (theory_of s) k) ≡ fd out.lhs t ∷ [] = ap functional_one out.given in
-    rw (is, one) (record {
-      count = omega (arith, length-append leaves (fd out.lhs t ∷ []), before.count);
+    let long : length (leaves ++ fd out.lhs t ∷ []) ≡ suc m = omega (arith, length-append leaves (fd out.lhs t ∷ []), before.count) in
+    subst (λ (c : Stage). HasLeaves s x c.closed (suc m) c.tree) (sym is) (record {
+      count = ap (λ (ds : List Dependency). length (leaves ++ ds)) one ∙ long;
       size = omega (arith, before.size);
       obeyed = λ r all.
-          let last : ObeysFd out.lhs t r = All-head (λ (d : Dependency). Obeys (width_of s) d r) (fd out.lhs t) []
-              (all_right (λ (d : Dependency). Obeys (width_of s) d r) leaves (fd out.lhs t ∷ []) all) in
-          transitivity_obeyed x b.closed (union b.closed t) r
-          (before.obeyed r (all_left (λ (d : Dependency). Obeys (width_of s) d r) leaves (fd out.lhs t ∷ []) all))
+          let O : Dependency → Type 0 = λ d. Obeys (width_of s) d r in
+          let each : All O (leaves ++ fd out.lhs t ∷ []) = subst (λ (ds : List Dependency). All O (leaves ++ ds)) one all in
+          let last : ObeysFd out.lhs t r = All-head O (fd out.lhs t) [] (all_right O leaves (fd out.lhs t ∷ []) each) in
+          transitivity_obeyed x b.closed (union b.closed t) r (before.obeyed r (all_left O leaves (fd out.lhs t ∷ []) each))
           (fd_added out.lhs t b.closed r out.out.inside last);
     })
 

@@ -1,13 +1,19 @@
 -- What a line more keeps of a derivation.
-use Rattle.std.proofs.Common.{◌≡◌, ◌⊎◌, ℕ, zero, suc, ◌+◌, ◌<◌, inl, inr, List, [], ◌∷◌, ◌++◌, length, get_or, map, refl, ap, sym, ◌∙◌, subst, arith, append-nil, append_assoc, length-append}
+use Rattle.std.proofs.Common.{◌≡◌, ◌⊎◌, ℕ, zero, suc, ◌+◌, ◌<◌, inl, inr, List, [], ◌∷◌, ◌++◌, length, get_or, map, refl, ap, sym, ◌∙◌, subst, arith, add-one, take, take_all, append-nil, append_assoc, length-append}
 use Rattle.std.specs.Prelude.{Some, slice_get, Contains, All, AllPairs, filter}
 use Rattle.std.proofs.lemmas.Bool.{cases_lt}
 use Rattle.std.proofs.lemmas.List.{map-append}
 use Rattle.std.proofs.lemmas.Option.{slice_get_within, get_or_from_slice_get}
 use Rattle.std.proofs.lemmas.List.Elements.{filter-append, All-push}
 use Rattle.std.proofs.lemmas.List.Quantifiers.{all_pairs_push}
+use Rattle.std.proofs.Math.Seq.{take-suc}
 use Rattle.dep_model.specs.Dependencies.{Dependency}
+use Rattle.dep_model.specs.Deps.{dependency_of}
 use Rattle.dep_model.specs.Theories.{Theory}
+use Rattle.short_derivations.specs.declared.inference.Inference.{Inference}
+use Rattle.short_derivations.specs.Emitted.{AreWritten}
+use Rattle.short_derivations.specs.Short.{Concludes}
+use Rattle.short_derivations.specs.Views.{line_of, lines_of}
 use Rattle.short_derivations.specs.Inferences.{Line, Why, stated_by, Gives, AreGiven, premises_of, IsUsed, EachIsUsed, NoneIsRepeated, is_given, givens_of}
 
 -- ---- what stands in a longer list
@@ -91,3 +97,38 @@ stated_push ls l = map-append (λ (m : Line). m.stated) ls (l ∷ [])
 pub stated_last : (ls : List Line) (l : Line) → slice_get (stated_by (ls ++ l ∷ [])) (length ls) ≡ Some l.stated
 stated_last [] l = refl
 stated_last (m ∷ ls) l = stated_last ls l
+
+-- ---- the lines of the code
+pub stated_there : (items : List Inference) (k : ℕ) (d : Inference) → k < length items
+    → slice_get (stated_by (lines_of items)) k ≡ Some (dependency_of (get_or items k d).stated)
+stated_there [] k d low = absurd (omega (arith, low))
+stated_there (i ∷ is) zero d low = refl
+stated_there (i ∷ is) (suc k) d low = stated_there is k d (omega (arith, low))
+
+pub line_there : (items : List Inference) (k : ℕ) (d : Inference) → k < length items
+    → slice_get (lines_of items) k ≡ Some (line_of (get_or items k d))
+line_there [] k d low = absurd (omega (arith, low))
+line_there (i ∷ is) zero d low = refl
+line_there (i ∷ is) (suc k) d low = line_there is k d (omega (arith, low))
+
+pub lines_next : (items : List Inference) (k : ℕ) (d : Inference) → k < length items
+    → lines_of (take (k + 1) items) ≡ lines_of (take k items) ++ line_of (get_or items k d) ∷ []
+lines_next items k d low = rw add-one (ap lines_of (take-suc items k d low) ∙ map-append line_of (take k items) (get_or items k d ∷ []))
+
+pub ends_at : (items : List Inference) (k : ℕ) (d : Inference) (e : Dependency) → k + 1 ≡ length items → dependency_of (get_or items k d).stated ≡ e
+    → Concludes (lines_of items) e
+ends_at items k d e last states =
+    let all : take (k + 1) items ≡ items = take_all (k + 1) items (omega (arith, last)) in
+    (
+      lines_of (take k items),
+      line_of (get_or items k d),
+      ap lines_of (sym all) ∙ lines_next items k d (omega (arith, last)),
+      states,
+    )
+
+pub written_push : (s : Theory) (ls : List Line) (l : Line) → AreWritten s ls → Gives s (stated_by ls) l.why l.stated
+    → All (λ m. m.stated ≡ l.stated → ⊥) ls → AreWritten s (ls ++ l ∷ [])
+written_push s ls l written gives new = record {
+  given = given_push s [] ls l written.given gives;
+  once = once_push ls l written.once new;
+}

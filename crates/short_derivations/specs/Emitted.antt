@@ -6,7 +6,8 @@ use Rattle.dep_model.specs.Theories.{Theory}
 use Rattle.derivation.specs.Trees.{Tree, nodes}
 use Rattle.derivation.specs.Conclusions.{Proves}
 use Rattle.derivation.specs.Direct.{IsIn}
-use Rattle.short_derivations.specs.Inferences.{Line, AreGiven, IsUsed, NoneIsRepeated, stated_by}
+use Rattle.short_derivations.specs.Inferences.{Line, AreGiven, IsUsed, EachIsUsed, NoneIsRepeated, stated_by}
+use Rattle.short_derivations.specs.Short.{Concludes}
 
 -- lines that their rules give, none of them repeated
 pub record AreWritten (s : Theory) (lines : List Line) : Type 0 where
@@ -28,3 +29,11 @@ pub record AreEmitted (s : Theory) (t : Tree) (old : List Line) (at : ℕ) (line
   pub few : length lines ≤ length old + nodes t
   pub parts : All (λ d. IsStatedOrPart s t old d) (stated_by lines)
   pub last : (at + 1 ≡ length lines) ⊎ (lines ≡ old)
+
+-- a derivation of d, of so many lines at most
+pub record IsEmission (s : Theory) (d : Dependency) (most : ℕ) (lines : List Line) : Type 0 where
+  pub given : AreGiven s [] lines
+  pub concludes : Concludes lines d
+  pub used : EachIsUsed lines
+  pub once : NoneIsRepeated lines
+  pub fits : length lines ≤ most

@@ -1,7 +1,8 @@
 //! The links that a certificate stands on.
 
-ghost use Rattle.std.specs.Prelude.{◌≡◌, ◌++◌, All, OnOk, IfOk, slice_get};
-ghost use Rattle.dep_model.specs.Theories.{theory_of};
+ghost use Rattle.std.specs.Prelude.{◌≡◌, ◌++◌, All, OnOk, IfOk, Some, slice_get, option_map};
+ghost use Rattle.dep_model.specs.Deps.{dependency_of};
+ghost use Rattle.dep_model.specs.Theories.{Theory, theory_of};
 ghost use Rattle.derivation.specs.Trees.{leaf};
 ghost use Rattle.derivation.specs.Derivs.{tree_of, leaf_of};
 ghost use Rattle.short_derivations.specs.Links.{IsLinkOf, functional_leaves, functional_one, said_by};
@@ -63,15 +64,34 @@ fn add_given(theory: &Theory, position: u16, links: &mut Vec<Link>) -> Result<()
     ensures said { OnOk result (said_by links.new.items
         ≡ said_by links.old.items ++ functional_one (slice_get (theory_of theory.now) position)) }
 {
+    match given_at(theory, position) {
+        Some(dep) => add_functional(links, position, dep),
+        None => Ok(()),
+    }
+}
+
+// The dependency at a position.
+fn given_at(theory: &Theory, position: u16) -> Option<Dep>
+    ensures at { option_map dependency_of result ≡ slice_get (theory_of theory.now) position }
+{
     match theory.deps().get(position as usize) {
-        Some(Dep::Fd { lhs, rhs }) => {
-            links.push(Link {
-                position,
-                lhs: *lhs,
-                rhs: *rhs,
-            })?;
+        Some(dep) => Some(*dep),
+        None => None,
+    }
+}
+
+// Adds a dependency that stands at a position, if it is functional.
+fn add_functional(links: &mut Vec<Link>, position: u16, dep: Dep) -> Result<(), OutOfMemory>
+    ensures links { (s : Theory) → slice_get (theory_of s) position ≡ Some (dependency_of dep)
+        → All (IsLinkOf s) links.old.items → OnOk result (All (IsLinkOf s) links.new.items) }
+    ensures said { OnOk result (said_by links.new.items
+        ≡ said_by links.old.items ++ functional_one (Some (dependency_of dep))) }
+{
+    match dep {
+        Dep::Fd { lhs, rhs } => {
+            links.push(Link { position, lhs, rhs })?;
             Ok(())
         }
-        _ => Ok(()),
+        Dep::Mvd { .. } => Ok(()),
     }
 }

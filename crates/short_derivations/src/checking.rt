@@ -77,10 +77,11 @@ fn gives(theory: &Theory, lines: &[Inference], stated: Dep, reason: Reason) -> b
 fn stated_at(lines: &[Inference], p: u32) -> Option<Dep>
     ensures stated { IfSome result (λ x. slice_get (stated_by (lines_of lines.now)) p ≡ Some (dependency_of x)) }
 {
-    match lines.get(p as usize) {
-        Some(line) => Some(line.stated),
-        None => None,
+    let at = p as usize;
+    if at >= lines.len() {
+        return None;
     }
+    Some(lines[at].stated)
 }
 
 // Whether an outcome is this conclusion.
@@ -98,10 +99,11 @@ pub fn ends_with(lines: &[Inference], goal: Dep) -> bool
     ensures concludes { IsTrue result → Concludes (lines_of lines.now) (dependency_of goal) }
     ensures used { IsTrue result → EachIsUsed (lines_of lines.now) }
 {
-    match lines.last() {
-        Some(last) => same_dep(last.stated, goal) && each_is_used(lines),
-        None => false,
+    let count = lines.len();
+    if count == 0 || !same_dep(lines[count - 1].stated, goal) {
+        return false;
     }
+    each_is_used(lines)
 }
 
 // Whether each line but the last is used.

@@ -7,9 +7,8 @@ ghost use Rattle.derivation.specs.Conclusions.{Proves};
 ghost use Rattle.derivation.specs.Direct.{IsDirect};
 ghost use Rattle.derivation.specs.Trees.{nodes};
 ghost use Rattle.derivation.specs.Derivs.{tree_of};
-ghost use Rattle.short_derivations.specs.Emitted.{AreWritten, AreEmitted};
-ghost use Rattle.short_derivations.specs.Inferences.{AreGiven, EachIsUsed, NoneIsRepeated, stated_by};
-ghost use Rattle.short_derivations.specs.Short.{Concludes};
+ghost use Rattle.short_derivations.specs.Emitted.{AreWritten, AreEmitted, IsEmission};
+ghost use Rattle.short_derivations.specs.Inferences.{stated_by};
 ghost use Rattle.short_derivations.specs.Views.{why_of, lines_of};
 
 use crate::lines::add_line;
@@ -28,11 +27,8 @@ pub fn emitted(
     requires proof { Proves theory.now (tree_of deriv.now) (dependency_of goal) }
     requires direct { IsDirect theory.now (tree_of deriv.now) }
     requires fits_u32 { nodes (tree_of deriv.now) < 2 ^ 32 }
-    ensures given { IfOk result (λ lines. AreGiven theory.now [] (lines_of lines.items)) }
-    ensures concludes { IfOk result (λ lines. Concludes (lines_of lines.items) (dependency_of goal)) }
-    ensures used { IfOk result (λ lines. EachIsUsed (lines_of lines.items)) }
-    ensures once { IfOk result (λ lines. NoneIsRepeated (lines_of lines.items)) }
-    ensures few { IfOk result (λ lines. length lines.items ≤ nodes (tree_of deriv.now)) }
+    ensures emission { IfOk result (λ lines. IsEmission theory.now (dependency_of goal)
+        (nodes (tree_of deriv.now)) (lines_of lines.items)) }
 {
     let mut lines = Vec::new(alloc);
     emit(theory, &mut lines, deriv)?;
@@ -85,9 +81,9 @@ fn emit_line(
     reason: Reason,
 ) -> Result<u32, OutOfMemory>
     requires fits_u32 { length lines.old.items < 2 ^ 32 }
-    ensures at { IfOk result (λ at. at ≡ length lines.old.items) }
-    ensures added { OnOk result (lines_of lines.new.items ≡ lines_of lines.old.items
-        ++ record { stated = dependency_of stated; why = why_of reason } ∷ []) }
+    ensures added { IfOk result (λ at. (at ≡ length lines.old.items)
+        × (lines_of lines.new.items ≡ lines_of lines.old.items
+        ++ record { stated = dependency_of stated; why = why_of reason } ∷ [])) }
 {
     let at = lines.len() as u32;
     add_line(lines, stated, reason)?;

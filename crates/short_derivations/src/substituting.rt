@@ -1,7 +1,8 @@
 //! Derivations that are found from the goal back: what is left to be determined is replaced by the left
 //! sides of dependencies, by pseudotransitivity.
 
-ghost use Rattle.std.specs.Prelude.{OnOk, IfOk};
+ghost use Rattle.std.specs.Prelude.{◌<◌, OnOk, IfOk, IfSome};
+ghost use Rattle.derivation.specs.declared.measures.TheConstants.{MOST_NODES};
 ghost use Rattle.short_derivations.specs.Emitted.{AreWritten};
 ghost use Rattle.short_derivations.specs.Views.{lines_of};
 
@@ -10,7 +11,7 @@ use crate::links::Link;
 use crate::{Inference, Reason};
 use attr_sets::AttrSet;
 use dep_model::{Dep, OutOfMemory, Theory, sides};
-use derivation::{LeafRule, StepRule};
+use derivation::{LeafRule, MOST_NODES, StepRule};
 use derivation_rules::FurtherRule;
 use std::alloc::Global;
 
@@ -54,7 +55,7 @@ fn substitute(
             if shared.is_subset(lhs) {
                 return Ok(());
             }
-            let next = lines.len() as u32;
+            let next = last + 1;
             try_line(theory, lines, link.said(), Reason::Leaf(LeafRule::Given(link.position)))?;
             let mut from = next;
             let mut part = link.rhs;
@@ -65,7 +66,7 @@ fn substitute(
                     rhs: part,
                 };
                 try_line(theory, lines, stated, Reason::Decomposition(next))?;
-                from = next.wrapping_add(1);
+                from = next + 1;
             }
             let stated = Dep::Fd {
                 lhs: link.lhs.union(left.difference(part)),
@@ -129,12 +130,13 @@ fn narrow(
 }
 
 // The number of the last line, and the sides of what it states.
-fn last_line(lines: &[Inference]) -> Option<(u32, AttrSet, AttrSet)> {
-    match lines.last() {
-        None => None,
-        Some(line) => {
-            let (left, right) = sides(line.stated);
-            Some(((lines.len() as u32).wrapping_sub(1), left, right))
-        }
+fn last_line(lines: &[Inference]) -> Option<(u32, AttrSet, AttrSet)>
+    ensures small { IfSome result (λ last. last.0 < MOST_NODES) }
+{
+    let count = lines.len();
+    if count == 0 || count > MOST_NODES as usize {
+        return None;
     }
+    let (left, right) = sides(lines[count - 1].stated);
+    Some((count as u32 - 1, left, right))
 }

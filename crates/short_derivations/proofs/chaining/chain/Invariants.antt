@@ -8,11 +8,11 @@ use Rattle.short_derivations.specs.Links.{IsBegun}
 use Rattle.short_derivations.specs.Views.{lines_of}
 use Rattle.short_derivations.proofs.chaining.chain.Given as goal
 
-abbrev pub invariant-loop-closed : goal.invariant-loop-closed
-invariant-loop-closed l = record {
-  begun : IsBegun l.theory l.links (attributes l.fn.lhs) (attributes l.rhs) (attributes l.closed) (lines_of l.lines.items);
+abbrev pub invariant-loop-lhs : goal.invariant-loop-lhs
+invariant-loop-lhs l = record {
+  begun : IsBegun l.theory l.links (attributes l.lhs) (attributes l.rhs) (attributes l.closed) (lines_of l.lines.items);
   within : IsSubset (attributes l.closed) (universe_of l.theory);
 }
 
-abbrev pub decreases-loop-closed : goal.decreases-loop-closed
-decreases-loop-closed l = MOST_ATTRIBUTES - count_below (attributes l.closed) MOST_ATTRIBUTES
+abbrev pub decreases-loop-lhs : goal.decreases-loop-lhs
+decreases-loop-lhs l = MOST_ATTRIBUTES - count_below (attributes l.closed) MOST_ATTRIBUTES

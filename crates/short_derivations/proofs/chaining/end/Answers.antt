@@ -1,5 +1,5 @@
 -- What is left to prove of `end`: that the chain is a derivation of its goal.
-use Rattle.std.proofs.Common.{◌≡◌, ◌+◌, ◌∙◌, sym, ap, refl, arith, length}
+use Rattle.std.proofs.Common.{◌≡◌, ◌+◌, ◌-◌, ◌∙◌, sym, ap, refl, subst, arith, List, [], ◌∷◌, ◌++◌, length, length-append}
 use Rattle.std.proofs.lemmas.Bool.{false≢true}
 use Rattle.std.proofs.lemmas.List.{length-map}
 use Rattle.std.proofs.lemmas.Result.{on_ok_weaker}
@@ -22,9 +22,9 @@ returns c =
     let long = length-map c.args.lines.now.items line_of in
     record {
       linked = on_ok_weaker c.add_line.result
-          (λ added. rw added (ended_by_cut c.args.theory.now c.args.links.now (attributes c.args.lhs) (attributes c.args.rhs) (attributes c.args.closed)
+          (λ added. subst (IsLinked c.args.theory.now c.args.links.now (fd (attributes c.args.lhs) (attributes c.args.rhs))) (sym added) (ended_by_cut c.args.theory.now c.args.links.now (attributes c.args.lhs) (attributes c.args.rhs) (attributes c.args.closed)
           (lines_of c.args.lines.now.items) (c.len.result - 1) c.requires.chain c.requires.reached
           (λ outside. false≢true (sym c.if-is_subset.false ∙ c.is_subset.ensures.subset.1 outside))
-          (omega (arith, c.len.ensures, long, c.requires.chain.few))))
+          (omega (arith, c.len.ensures, long, ap length c.requires.chain.last.2, length-append c.requires.chain.last.0 (c.requires.chain.last.1 ∷ [])))))
           c.add_line.ensures.added;
     }

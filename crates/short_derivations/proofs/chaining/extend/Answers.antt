@@ -1,5 +1,5 @@
 -- What is left to prove of `extend`: that the chain goes on.
-use Rattle.std.proofs.Common.{◌≡◌, ◌+◌, ◌∙◌, sym, ap, refl, arith, List, [], ◌∷◌, ◌++◌, length}
+use Rattle.std.proofs.Common.{◌≡◌, ◌+◌, ◌-◌, ◌∙◌, sym, ap, refl, subst, arith, List, [], ◌∷◌, ◌++◌, length, length-append}
 use Rattle.std.proofs.lemmas.Bool.{false≢true}
 use Rattle.std.proofs.lemmas.List.{length-map}
 use Rattle.std.proofs.lemmas.Result.{on_ok_weaker}
@@ -17,7 +17,7 @@ returns-then-holds c =
           (λ added. grows_at_once c.args.theory.now c.args.links.now (attributes c.args.lhs) (attributes c.args.rhs) (attributes c.args.closed) c.args.link
           (c.len-next.result - 1) c.len-next.result (lines_of c.args.lines.now.items) (lines_of c.add_given.new.lines.items) (lines_of c.add_line.new.lines.items)
           c.requires.chain c.requires.one c.requires.link c.requires.out c.requires.new c.requires.missing c.requires.goes_on both.0 both.1
-          (omega (arith, c.len-next.ensures, long)) (omega (arith, c.len-next.ensures, long, c.requires.chain.few))
+          (omega (arith, c.len-next.ensures, long)) (omega (arith, c.len-next.ensures, long, ap length c.requires.chain.last.2, length-append c.requires.chain.last.0 (c.requires.chain.last.1 ∷ [])))
           c.in_ok-add_given.ensures.added added)
           c.add_line.ensures.added;
     }
@@ -33,7 +33,7 @@ returns c =
           (lines_of c.add_line-2.new.lines.items) (lines_of c.add_line-3.new.lines.items)
           c.requires.chain c.requires.one c.requires.link c.requires.out c.requires.new c.requires.missing c.requires.goes_on c.requires.closed
           (λ left right. false≢true (sym c.if-holds.false ∙ c.holds.ensures.both.1 (left, right)))
-          (omega (arith, c.len-next.ensures, long)) (omega (arith, c.len-next.ensures, long, c.requires.chain.few))
+          (omega (arith, c.len-next.ensures, long)) (omega (arith, c.len-next.ensures, long, ap length c.requires.chain.last.2, length-append c.requires.chain.last.0 (c.requires.chain.last.1 ∷ [])))
           c.union-wide.ensures.members c.in_ok-add_given.ensures.added c.in_ok-add_line.ensures.added added)
           c.add_line-3.ensures.added;
     }
