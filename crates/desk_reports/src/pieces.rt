@@ -71,7 +71,7 @@ pub fn put_explained(
     explained: &[u8],
 ) -> Result<(), OutOfMemory>
     ensures added { OnOk result (text.new.items ≡ text.old.items
-        ++ open_text title.now printed.now ++ folded_text (codes "Why") explained.now) }
+        ++ (open_text title.now printed.now ++ folded_text (codes "Why") explained.now)) }
 {
     add_open_piece(text, title, printed)?;
     add_folded_piece(text, b"Why", explained)

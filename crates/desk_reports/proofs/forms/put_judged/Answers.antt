@@ -13,9 +13,9 @@ returns c =
     let s = c.args.schema.now in
     let form = c.args.form in
     record {
-      added = adds_opened (JudgesForm s form (universe_of s ∷ [])) (tested_title form) c.title_of_tested.result.now c.check_form.result
+      added = adds_opened (JudgesForm s form (universe_of s ∷ [])) (tested_title form) c.title_of_tested.result.now c.check_form-judged.result
           _ _ c.title_of_tested.ensures.title
-          (subst (λ (plan : List Attributes). RespondsAs (JudgesForm s form plan) c.check_form.result) c.in_ok-plan.ensures.scheme
-          c.check_form.ensures.response)
+          (subst (λ (plan : List Attributes). RespondsAs (JudgesForm s form plan) c.check_form-judged.result) c.in_ok-plan.ensures.scheme
+          c.check_form-judged.ensures.response)
           c.in_ok-put_opened.ensures.added;
     }

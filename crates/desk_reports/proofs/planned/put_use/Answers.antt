@@ -23,8 +23,8 @@ returns c =
           c.check_keeps.result _ _ (c.deref.ensures.value ∙ c.in_ok-keeping.ensures.text)
           c.check_keeps.ensures.response c.in_ok-put_opened.ensures.added)
           (adds_folded (WritesPlan s planned.names.items schemes) (title_with_words (codes "SQL") writing) c.deref-3.result.now
-          c.write_plan.result _ _ (c.deref-3.ensures.value ∙ c.in_ok-writing.ensures.text)
-          (subst (λ (names : GivenNames). RespondsAs (WritesPlan s names schemes) c.write_plan.result)
-          c.deref-2.ensures.value c.write_plan.ensures.response)
+          c.write_plan-written.result _ _ (c.deref-3.ensures.value ∙ c.in_ok-writing.ensures.text)
+          (subst (λ (names : GivenNames). RespondsAs (WritesPlan s names schemes) c.write_plan-written.result)
+          c.deref-2.ensures.value c.write_plan-written.ensures.response)
           c.in_ok-put_folded.ensures.added);
     }

@@ -19,7 +19,7 @@ returns c =
           (adds_just (ShowsPicture s [] (scheme_sets plan)) _ (picture_text s tables) _ (tables, c.in_ok-tables.ensures.sound, refl)
           c.in_ok-put_drawing.ensures.added)
           (adds_both _ _ _ _ _
-          (adds_opened (JudgesKeeping s (plan_of plan)) (codes "Rules that they keep") (codes "Rules that they keep") c.check_keeps.result _ _
-          refl c.check_keeps.ensures.response c.in_ok-put_opened.ensures.added)
+          (adds_opened (JudgesKeeping s (plan_of plan)) (codes "Rules that they keep") (codes "Rules that they keep") c.check_keeps-kept.result _ _
+          refl c.check_keeps-kept.ensures.response c.in_ok-put_opened.ensures.added)
           c.in_ok-put_sql.ensures.added));
     }
