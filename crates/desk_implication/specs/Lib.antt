@@ -5,5 +5,6 @@ pub mod Certificates
 pub mod Bases
 pub mod Closures
 pub mod Projections
+pub mod MistakeTexts
 pub mod Derivations
 pub mod Conclusions

@@ -13,6 +13,7 @@ mod closures;
 mod conclusions;
 mod explaining;
 mod implication;
+mod mistakes;
 mod projecting;
 
 pub use bases::give_basis;

@@ -1,16 +1,14 @@
 -- Which columns refer to a target.
-use Rattle.std.specs.Prelude.{◌↔◌, All, Contains}
-use Rattle.std.specs.List.{AllZip}
-use Rattle.std.proofs.Common.{inl, inr, ◌≡◌, ◌+◌, ◌<◌, ◌⊎◌, ℕ, zero, suc, true, List, [], ◌∷◌, ◌++◌, length, take, get_or, Option, Some, None, refl, sym, ap, subst, ◌∙◌, ⊎_elim, arith}
+use Rattle.std.specs.Prelude.{All, Contains}
+use Rattle.std.proofs.Common.{inl, inr, ◌≡◌, ◌+◌, ◌<◌, ℕ, zero, suc, true, List, [], ◌∷◌, ◌++◌, length, take, get_or, Some, None, refl, sym, ap, subst, ◌∙◌, ⊎_elim, arith}
 use Rattle.std.proofs.lemmas.List.Elements.{AllZip-get_or, AllZip-push, length_all_zip}
 use Rattle.std.proofs.lemmas.List.{take_more}
 use Rattle.std.proofs.lemmas.Bool.{cases_lt}
 use Rattle.std.proofs.lemmas.List.Quantifiers.{position-Some}
 use Rattle.dep_model.proofs.ListLemmas.{All-members}
 use Rattle.dep_model.specs.Tuples.{Tuple, Relation}
-use Rattle.file_references.specs.Columns.{HasMatch, file_at, misses_none, name_at, values_on}
+use Rattle.file_references.specs.Columns.{file_at, misses_none, name_at, values_on}
 use Rattle.file_references.specs.Finds.{Adds, AllAre, AreNamedAs, IsTargetOf, IsThis, RefersFrom, RefersFromColumns, RefersFromFirst, RefersTo, refers_from}
-use Rattle.file_references.specs.Keys.{AreValues}
 use Rattle.file_references.specs.References.{AreNamesakes, IsCandidate, IsOneColumn, IsReference, IsTarget, Reference}
 use Rattle.file_references.specs.declared.targets.Target.{Target}
 use Rattle.file_references.proofs.AddLemmas.{adds_fewer, adds_none, adds_then}

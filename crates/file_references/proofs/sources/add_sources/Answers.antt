@@ -3,6 +3,7 @@
 use Rattle.std.proofs.Common.{◌≡◌, ◌+◌, length, map, ap, sym, subst, arith}
 use Rattle.std.proofs.lemmas.List.{length-map}
 use Rattle.file_references.specs.Finds.{Adds, RefersFromFirst, reference_of}
+use Rattle.file_references.proofs.AddLemmas.{still_references}
 use Rattle.file_references.proofs.SourceLemmas.{files_all, files_more}
 use Rattle.headed_rows.specs.Headings.{headed_of}
 use Rattle.file_references.proofs.sources.add_sources.Goals as goal
@@ -10,7 +11,7 @@ use Rattle.file_references.proofs.sources.add_sources.Goals.{then-len-eq1+in_ok-
 
 pub loop-file-preserved : goal.loop-file-preserved
 loop-file-preserved c = record {
-  adds = λ of.
+  adds = λ are of.
       let files = map headed_of c.args.files.now in
       let file = c.loop-file.file in
       let target = c.args.target.now in
@@ -19,20 +20,20 @@ loop-file-preserved c = record {
       elim c.if-len-eq1.branch [
         | then-len-eq1+in_ok-add_columns w ↦
             subst (Adds files (RefersFromFirst target (file + 1)) old) (sym (ap (λ v. map reference_of v.items) w.found-is))
-            (files_more files file target old now (map reference_of w.add_columns.new.found.items) (c.loop-file.invariant.adds of)
-            (w.in_ok-add_columns.ensures.added of))
+            (files_more files file target old now (map reference_of w.add_columns.new.found.items) (c.loop-file.invariant.adds are of)
+            (w.in_ok-add_columns.ensures.added (still_references files (RefersFromFirst target file) old now are (c.loop-file.invariant.adds are of)) of))
         | else-len-eq1+in_ok-add_namesakes w ↦
             subst (Adds files (RefersFromFirst target (file + 1)) old) (sym (ap (λ v. map reference_of v.items) w.found-is))
-            (files_more files file target old now (map reference_of w.add_namesakes.new.found.items) (c.loop-file.invariant.adds of)
-            (w.in_ok-add_namesakes.ensures.added of))
+            (files_more files file target old now (map reference_of w.add_namesakes.new.found.items) (c.loop-file.invariant.adds are of)
+            (w.in_ok-add_namesakes.ensures.added (still_references files (RefersFromFirst target file) old now are (c.loop-file.invariant.adds are of)) of))
       ];
 }
 
 pub returns : goal.returns
 returns c = record {
-  added = λ of.
+  added = λ are of.
       let files = map headed_of c.args.files.now in
       let all : c.loop-file.file ≡ length files = omega (arith, c.loop-file-test.false, c.loop-file.auto.file-end, length-map c.args.files.now headed_of) in
       files_all files c.loop-file.file c.args.target.now (map reference_of c.args.found.now.items) (map reference_of c.loop-file.found.items) all
-      (c.loop-file.invariant.adds of);
+      (c.loop-file.invariant.adds are of);
 }
