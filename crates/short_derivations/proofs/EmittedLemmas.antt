@@ -218,5 +218,5 @@ emitted_all s t at lines d emitted proves =
         | inr same ↦ absurd (omega (arith, same, number, low))
       ];
       once = emitted.written.once;
-      fits = emitted.few;
+      fits = omega (arith, emitted.few);
     }

@@ -1,5 +1,5 @@
 -- What a line more keeps of a derivation.
-use Rattle.std.proofs.Common.{◌≡◌, ◌⊎◌, ℕ, zero, suc, ◌+◌, ◌<◌, inl, inr, List, [], ◌∷◌, ◌++◌, length, get_or, map, refl, ap, sym, ◌∙◌, subst, arith, add-one, take, take_all, append-nil, append_assoc, length-append}
+use Rattle.std.proofs.Common.{◌≡◌, ◌⊎◌, ℕ, zero, suc, ◌+◌, ◌<◌, inl, inr, List, [], ◌∷◌, ◌++◌, length, get_or, map, true, false, refl, ap, sym, ◌∙◌, subst, arith, add-one, take, take_all, append-nil, append_assoc, length-append}
 use Rattle.std.specs.Prelude.{Some, slice_get, Contains, All, AllPairs, filter}
 use Rattle.std.proofs.lemmas.Bool.{cases_lt}
 use Rattle.std.proofs.lemmas.List.{map-append}
@@ -13,7 +13,7 @@ use Rattle.dep_model.specs.Theories.{Theory}
 use Rattle.short_derivations.specs.declared.inference.Inference.{Inference}
 use Rattle.short_derivations.specs.Emitted.{AreWritten}
 use Rattle.short_derivations.specs.Short.{Concludes}
-use Rattle.short_derivations.specs.Views.{line_of, lines_of}
+use Rattle.short_derivations.specs.Views.{why_of, line_of, lines_of}
 use Rattle.short_derivations.specs.Inferences.{Line, Why, stated_by, Gives, AreGiven, premises_of, IsUsed, EachIsUsed, NoneIsRepeated, is_given, givens_of}
 
 -- ---- what stands in a longer list
@@ -132,3 +132,15 @@ written_push s ls l written gives new = record {
   given = given_push s [] ls l written.given gives;
   once = once_push ls l written.once new;
 }
+
+pub givens_next_given : (items : List Inference) (k : ℕ) (d : Inference) → k < length items → is_given (why_of (get_or items k d).reason) ≡ true
+    → givens_of (lines_of (take (k + 1) items)) ≡ givens_of (lines_of (take k items)) ++ dependency_of (get_or items k d).stated ∷ []
+givens_next_given items k d low given =
+    ap givens_of (lines_next items k d low) ∙ givens_push (lines_of (take k items)) (line_of (get_or items k d))
+    ∙ ap (λ (ds : List Dependency). givens_of (lines_of (take k items)) ++ ds) (rw given refl)
+
+pub givens_next_other : (items : List Inference) (k : ℕ) (d : Inference) → k < length items → is_given (why_of (get_or items k d).reason) ≡ false
+    → givens_of (lines_of (take (k + 1) items)) ≡ givens_of (lines_of (take k items))
+givens_next_other items k d low other =
+    ap givens_of (lines_next items k d low) ∙ givens_push (lines_of (take k items)) (line_of (get_or items k d))
+    ∙ ap (λ (ds : List Dependency). givens_of (lines_of (take k items)) ++ ds) (rw other refl) ∙ append-nil (givens_of (lines_of (take k items)))
