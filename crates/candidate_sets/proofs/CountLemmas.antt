@@ -45,11 +45,11 @@ more_listed n most es a m xs are has =
     omega (arith, short, has.more)
 
 -- ---- the sets of n columns
-abbrev subsets : ℕ → List Attributes
+abbrev pub subsets : ℕ → List Attributes
 subsets zero = none ∷ []
 subsets (suc n) = subsets n ++ map (λ (x : Attributes). union x (only n)) (subsets n)
 
-length-subsets : (n : ℕ) → length (subsets n) ≡ 2 ^ n
+pub length-subsets : (n : ℕ) → length (subsets n) ≡ 2 ^ n
 length-subsets zero = refl
 length-subsets (suc n) =
     let more : Attributes → Attributes = λ (x : Attributes). union x (only n) in
@@ -61,7 +61,7 @@ length-subsets (suc n) =
       pow-suc 2 n,
     )
 
-subset_listed : (n : ℕ) (x : Attributes) → IsSubset x (below n) → Contains (subsets n) x
+pub subset_listed : (n : ℕ) (x : Attributes) → IsSubset x (below n) → Contains (subsets n) x
 subset_listed zero x low =
     subst (λ (y : Attributes). Contains (none ∷ []) y) (same_from_within none x (λ k m. absurd (false≢true m))
     (λ k m. absurd (no_less k (low k m)))) (Contains-head none [])

@@ -6,3 +6,4 @@ pub mod StandingLemmas
 pub mod StepLemmas
 pub mod EvidenceLemmas
 pub mod CountLemmas
+pub mod FewColumns

@@ -5,6 +5,7 @@ ghost use Rattle.dep_model.specs.Tuples.{Tuple, Relation, IsOver, AgreeOn, value
 ghost use Rattle.fd_discovery.specs.Minimal.{IsMinimalWithin};
 ghost use Rattle.candidate_sets.specs.Evidence.{AreEvidence, IsEvidence, agreement, room};
 ghost use Rattle.candidate_sets.specs.Standing.{AreCandidates, HasMoreCandidates, IsCandidate, Stands};
+ghost use Rattle.candidate_sets.specs.declared.refusal.TheConstants.{MOST_CANDIDATES};
 ghost use Rattle.candidate_sets.specs.Steps.{IsGrown, IsHit, IsCandidateStep};
 
 /// What rows obey stands against all evidence of theirs.
@@ -80,4 +81,11 @@ pub fn room_falls()
 pub fn listed_or_more()
     ensures law { (n most : ℕ) (es : List Attributes) (a m : ℕ) (xs : List Attributes)
         → AreCandidates n most es a xs → HasMoreCandidates n most es a m → m < length xs }
+{}
+
+/// Of at most 20 columns no evidence has too many candidates: no two minimal sets differ in one column alone, so there
+/// are at most as many as sets of 19 columns, which are 524,288.
+pub fn few_columns_are_within_the_limit()
+    ensures law { (n most : ℕ) (es : List Attributes) (a : ℕ) → n ≤ 20
+        → HasMoreCandidates n most es a MOST_CANDIDATES → ⊥ }
 {}

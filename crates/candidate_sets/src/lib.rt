@@ -7,7 +7,7 @@
 //! is never looked at.
 //!
 //! Promises: exactly the candidates of the evidence so far, or a refusal where there are more than
-//! 1,000,000; whether one of them lies within a set. What rows obey stands against their evidence;
+//! 1,000,000, which at most 20 columns never have; whether one of them lies within a set. What rows obey stands against their evidence;
 //! where all candidates are obeyed they are exactly the minimal dependencies, and a candidate that
 //! is not obeyed gives more evidence.
 #![tactic(auto)]
@@ -23,8 +23,9 @@ mod refusal;
 pub use adding::{add_evidence, first_candidates};
 pub use asking::is_any_within;
 pub use laws::{
-    empty_set_comes_first, evidence_with_it_changes_nothing, grown_sets_arise_once, listed_or_more,
-    obeyed_candidates_are_minimal, obeyed_sets_stand, room_falls, standing_sets_hold_candidates,
-    step_gives_candidates, unobeyed_candidates_give_evidence,
+    empty_set_comes_first, evidence_with_it_changes_nothing, few_columns_are_within_the_limit,
+    grown_sets_arise_once, listed_or_more, obeyed_candidates_are_minimal, obeyed_sets_stand,
+    room_falls, standing_sets_hold_candidates, step_gives_candidates,
+    unobeyed_candidates_give_evidence,
 };
 pub use refusal::{MOST_CANDIDATES, TooManyCandidates};

@@ -1,9 +1,10 @@
 -- Which answers a command allows, and the words that form it: for `desk`, by `Desk`.
-use Rattle.std.specs.Prelude.{ℕ, List, [], ◌∷◌, MatchOption}
+use Rattle.std.specs.Prelude.{ℕ, ◌≤◌, List, [], ◌∷◌, MatchOption}
 use Rattle.dep_model.specs.Tuples.{Relation}
 use Rattle.schema_model.specs.Schemas.{Schema}
 use Rattle.table_join.specs.Tables.{tables_of}
 use Rattle.plan_printer.specs.NamedPlans.{NamedSchemes}
+use Rattle.sample_rows.specs.declared.rows.TheConstants.{MOST_PERSONS}
 use Rattle.desk_responses.specs.declared.status.Status.TheVariants.{Yes, Refused}
 use Rattle.desk_responses.specs.ResponseValues.{Allowed, Says}
 use Rattle.desk_implication.specs.Bases.{GivesBasis}
@@ -153,13 +154,17 @@ Does looks r schema (form.migrate_plan_into planned file folder) =
 Does looks r schema (form.check_proof file goal) =
     WithFile (proof_file schema) r file (λ tree. ChecksProof schema tree goal)
 Does looks r schema (form.check_derivation file goal) =
-    WithFile (derivation_file schema) r file (λ derived. ChecksDerivation schema derived goal)
+    WithFile (derivation_file schema) r file (λ lines. ChecksDerivation schema lines goal)
 Does looks r schema (form.of_pair file other_file question) =
     WithFile schema_file r other_file (λ other. AnswersPair schema other file other_file question)
 Does looks r schema (form.rejoin files) = WithParts r schema files (λ parts. JoinsTables schema (tables_of parts))
 Does looks r schema (form.report file) = ReportsSchema file schema
 Does looks r schema (form.report_plan file planned) =
     WithFile (plan_file schema) r planned (λ plan. ReportsPlan file planned schema plan)
+
+-- so many invented persons, as many as the limit at most
+abbrev pub SamplesFew : ℕ → Allowed
+SamplesFew persons response = (persons ≤ MOST_PERSONS) × Samples persons response
 
 -- a command
 unfoldable pub Performs : Looks → Reading → CommandForm → Allowed
@@ -172,7 +177,7 @@ Performs looks r (form.check_references file names other other_names) =
     (λ own. WithFile headed_file r other (λ others. ChecksReferences own names others other_names))
 Performs looks r (form.import_csv file) = WithFile imported_file r file ImportsColumns
 Performs looks r (form.import_sql dialect file table) = WithFile sql_file r file (ImportsTable dialect table file)
-Performs looks r (form.sample persons) = Samples persons
+Performs looks r (form.sample persons) = SamplesFew persons
 Performs looks r form.help = Says Yes help_text
 Performs looks r form.version = Says Yes version_text
 

@@ -214,7 +214,7 @@ fn of_proof<F: FileSource>(
     check_proof(alloc, schema, read.dep, goal)
 }
 
-// Whether the derivation of a file ends with a goal.
+// Whether the derivation of a file ends with a goal, and what is wrong with its lines.
 fn of_derivation<F: FileSource>(
     alloc: Global,
     source: &mut F,
@@ -228,13 +228,13 @@ fn of_derivation<F: FileSource>(
         (F.begun source.old) (F.begun source.new) }
     ensures response { (r : Reading) → Shows F.files F.faults F.taken F.begun source.old source.new r
         → RespondsAs (WithFile (derivation_file schema.now) r file.now
-        (λ derived. ChecksDerivation schema.now derived goal.now)) result }
+        (λ lines. ChecksDerivation schema.now lines goal.now)) result }
 {
-    let derived = match open_derivation(alloc, source, schema, file) {
-        Ok(derived) => derived,
+    let lines = match open_derivation(alloc, source, schema, file) {
+        Ok(lines) => lines,
         Err(exit) => return Err(exit),
     };
-    check_derivation(alloc, schema, derived, goal)
+    check_derivation(alloc, schema, &lines, goal)
 }
 
 // Answers what is asked of a schema and that of another file.

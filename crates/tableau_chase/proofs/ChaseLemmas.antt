@@ -5,8 +5,6 @@ use Rattle.std.proofs.lemmas.List.{length_push, get_or_append_left, get_or_defau
 use Rattle.std.proofs.lemmas.List.Elements.{All-contains, Contains-get_or, Contains-append_left, Contains-append_right, Contains-push, Contains-push_cases, filter_passes}
 use Rattle.std.specs.Prelude.{Contains, All, AllPairs}
 use Rattle.attr_sets.specs.Attributes.{Attributes, union}
-use Rattle.dep_model.specs.Theories.{Theory}
-use Rattle.dep_model.specs.Theories.{width_of, theory_of}
 use Rattle.dep_model.specs.Tuples.{Relation}
 use Rattle.dep_model.specs.Dependencies.{Dependency, mvd, is_fd, functional_part}
 use Rattle.chase_laws.specs.Tableaux.{SymbolRow, Tableau, SameTableau, IsTableauOver, distinguished_row, plan_tableau}

@@ -15,7 +15,7 @@ use Rattle.chase_laws.specs.Steps.{replace_in_row, replace_symbol, IsFunctionalS
 use Rattle.chase_laws.proofs.TableauLemmas.{symbol_at_past, length-replace_in_row, symbol_at-replace_in_row, symbol_after, symbol_after-hit, symbol_after-miss, Same-refl}
 use Rattle.chase_laws.proofs.RoundLemmas.{functional_leads_join}
 use Rattle.tableau_chase.specs.Groups.{symbol_row_at, AreSymbolLeaders}
-use Rattle.tableau_chase.specs.Equating.{Changes, Follows, KeepsRows, IsEquatedAt, AreEquated, AgreesBy, AreGrouped, AreGroupedBy}
+use Rattle.tableau_chase.specs.Equating.{Changes, Follows, FollowsBy, KeepsRows, IsEquatedAt, AreEquated, AgreesBy, AreGrouped, AreGroupedBy}
 
 -- ---- a replacement
 row_at-replace_symbol : (a former later : ℕ) (t : Tableau) (i : ℕ) → i < length t → symbol_row_at (replace_symbol a former later t) i ≡ replace_in_row a former later (symbol_row_at t i)
@@ -291,13 +291,6 @@ changes_follow : (ds : List Dependency) (changed : Bool) (t s : Tableau) → Cha
 changes_follow ds true t s changes = inr changes
 changes_follow ds false t s same = inl same
 
-grouped_follows : (ds : List Dependency) (d : Dependency) (t s : Tableau) (changed : Bool) → Contains ds d → AreGroupedBy d t s changed → Follows ds t s
-grouped_follows ds (fd x y) t s changed given grouped = record {
-  changes = changes_follow ds changed t s (grouped.changes ds given);
-  keeps = grouped.keeps;
-}
-grouped_follows ds (mvd x y) t s changed given grouped = subst (λ (u : Tableau). Follows ds t u) (sym grouped.0) (follows_none ds t)
-
 pub changes_followed : (ds : List Dependency) (t m s : Tableau) → Changes ds true t m → Follows ds m s → Changes ds true t s
 changes_followed ds t m s one other = ⊎_elim
     (λ same. subst (λ (u : Tableau). Changes ds true t u) (sym same) one)
@@ -313,9 +306,24 @@ follows_more ds t m s one other = record {
   keeps = KeepsRows-trans t m s one.keeps other.keeps;
 }
 
-pub follows_by : (ds : List Dependency) (k : ℕ) (d : Dependency) (t m s : Tableau) (changed : Bool) → k < length ds → Follows ds t m → AreGroupedBy (get_or ds k d) m s changed → Follows ds t s
-follows_by ds k d t m s changed low before grouped =
-    follows_more ds t m s before (grouped_follows ds (get_or ds k d) m s changed (Contains-get_or ds k d low) grouped)
+pub follows_by : (ds : List Dependency) (k : ℕ) (d : Dependency) (t m s : Tableau) → k < length ds → Follows ds t m → FollowsBy (get_or ds k d) m s → Follows ds t s
+follows_by ds k d t m s low before by = follows_more ds t m s before (by ds (Contains-get_or ds k d low))
 
 pub changes_kept : (ds : List Dependency) (t m s : Tableau) → KeepsRows t m → Follows ds m s → KeepsRows t s
 changes_kept ds t m s one other = KeepsRows-trans t m s one other.keeps
+
+-- ---- steps that follow by one dependency
+pub follows_by_none : (d : Dependency) (t : Tableau) → FollowsBy d t t
+follows_by_none d t ds given = follows_none ds t
+
+pub follows_by_more : (d : Dependency) (t m s : Tableau) → FollowsBy d t m → FollowsBy d m s → FollowsBy d t s
+follows_by_more d t m s one other ds given = follows_more ds t m s (one ds given) (other ds given)
+
+pub follows_by_keeps : (d : Dependency) (t s : Tableau) → FollowsBy d t s → KeepsRows t s
+follows_by_keeps d t s by = (by (d ∷ []) (Contains-head d [])).keeps
+
+pub equated_follows : (x y : Attributes) (first second : ℕ) (t s : Tableau) (changed : Bool) → SymbolsAgree x (symbol_row_at t first) (symbol_row_at t second) → AreEquated y first second t s changed → FollowsBy (fd x y) t s
+equated_follows x y first second t s changed agree equated ds given = record {
+  changes = changes_follow ds changed t s (equated.changes ds x given agree);
+  keeps = equated.keeps;
+}

@@ -27,6 +27,10 @@ pub record Follows (ds : List Dependency) (t s : Tableau) : Type 0 where
   pub changes : (s ≡ t) ⊎ Changes ds true t s
   pub keeps : KeepsRows t s
 
+-- the same by one dependency, of whatever list it is
+abbrev pub FollowsBy : Dependency → Tableau → Tableau → Type 0
+FollowsBy d t s = (ds : List Dependency) → Contains ds d → Follows ds t s
+
 -- the greater of two rows' symbols at an attribute became the smaller, unless they were equal
 abbrev pub IsEquatedAt : ℕ → ℕ → ℕ → Tableau → Tableau → Bool → Type 0
 IsEquatedAt a first second t s false =

@@ -1,23 +1,24 @@
 //! Steps by functional dependencies, until none changes the tableau.
 
-ghost use Rattle.std.specs.Prelude.{◌≡◌, ◌<◌, ◌≤◌, ◌^◌, ℕ, false, length, slice_index, All, Contains};
+ghost use Rattle.std.specs.Prelude.{◌≡◌, ◌<◌, ◌≤◌, ◌^◌, ℕ, false, length, slice_index, Contains};
 ghost use Rattle.std.specs.Prelude.{IsTrue, IfOk, OnOk};
 ghost use Rattle.attr_sets.specs.Attributes.{Attributes};
 ghost use Rattle.attr_sets.specs.Sets.{attributes};
 ghost use Rattle.attr_sets.specs.declared.set.TheConstants.{MOST_ATTRIBUTES};
 ghost use Rattle.dep_model.specs.Dependencies.{fd};
 ghost use Rattle.dep_model.specs.Deps.{dependency_of, dependencies_of};
-ghost use Rattle.dep_model.specs.Projections.{members_below};
 ghost use Rattle.chase_laws.specs.Tableaux.{IsTableauOver, Tableau};
-ghost use Rattle.chase_laws.specs.Steps.{replace_symbol};
 ghost use Rattle.chase_laws.specs.Rounds.{ClosesFunctionallyTo};
-ghost use Rattle.tableau_chase.specs.Equating.{Changes, Follows, KeepsRows, AgreesBy, IsEquatedAt};
-ghost use Rattle.tableau_chase.specs.Equating.{AreEquated, AreGroupedBy, AreGrouped, AreApart, IsKeptApart};
+ghost use Rattle.tableau_chase.specs.Equating.{Changes, KeepsRows, AgreesBy};
+ghost use Rattle.tableau_chase.specs.Equating.{AreGroupedBy, AreGrouped, AreApart, IsKeptApart};
 
+use crate::equating::equate;
+use crate::following::follow_steps;
+use crate::likely_rows::LikelyRows;
 use crate::row_groups::{leaders, members};
 use crate::symbol_row::SymbolRow;
-use attr_sets::{AttrSet, MOST_ATTRIBUTES};
-use dep_model::{Dep, OutOfMemory, sides};
+use attr_sets::AttrSet;
+use dep_model::{Dep, OutOfMemory};
 use std::alloc::Global;
 
 /// Takes steps by functional dependencies until none changes the tableau.
@@ -57,90 +58,20 @@ fn take_all_steps(
         (λ changed. changed ≡ false → (x y : Attributes) → Contains (dependencies_of deps.now) (fd x y)
         → AgreesBy x y rows.old) }
 {
-    let mut columns = AttrSet::empty();
-    let changed = take_steps(alloc, rows, deps, width, &mut columns)?;
+    let changed = take_steps(alloc, rows, deps, width)?;
     if !changed {
         return Ok(false);
     }
-    follow_steps(alloc, rows, deps, width, columns)?;
+    follow_steps(alloc, rows, deps, width)?;
     Ok(true)
 }
 
-// Takes the steps to which changes lead, again and again, as far as the columns that changed tell. That
-// there are no more is not known of the tableau that is left.
-fn follow_steps(
-    alloc: Global,
-    rows: &mut [SymbolRow],
-    deps: &[Dep],
-    width: u8,
-    columns: AttrSet,
-) -> Result<(), OutOfMemory>
-    requires width { width ≤ MOST_ATTRIBUTES }
-    requires over { IsTableauOver width rows.old }
-    requires fits_u32 { length rows.old < 2 ^ 32 }
-    ensures follows { OnOk result (Follows (dependencies_of deps.now) rows.old rows.new) }
-{
-    let mut changed = columns;
-    for _ in 0..MOST_ATTRIBUTES {
-        if changed.is_empty() {
-            return Ok(());
-        }
-        changed = take_led_steps(alloc, rows, deps, width, changed)?;
-    }
-    Ok(())
-}
-
-// Takes the steps of each functional dependency in turn of whose left side a column changed since its
-// last turn: before, or by a dependency that had its turn here. The columns that change are the result.
-fn take_led_steps(
-    alloc: Global,
-    rows: &mut [SymbolRow],
-    deps: &[Dep],
-    width: u8,
-    before: AttrSet,
-) -> Result<AttrSet, OutOfMemory>
-    requires width { width ≤ MOST_ATTRIBUTES }
-    requires over { IsTableauOver width rows.old }
-    requires fits_u32 { length rows.old < 2 ^ 32 }
-    ensures follows { OnOk result (Follows (dependencies_of deps.now) rows.old rows.new) }
-{
-    let mut columns = AttrSet::empty();
-    let mut apart = None;
-    for dep in deps {
-        if !is_led(*dep, before.union(columns)) {
-            continue;
-        }
-        let changed = take_steps_by(alloc, rows, *dep, width, &mut apart)?;
-        columns = with_changed(columns, *dep, changed);
-    }
-    Ok(columns)
-}
-
-// Whether a functional dependency has a column of its left side among those that changed.
-fn is_led(dep: Dep, columns: AttrSet) -> bool {
-    match dep {
-        Dep::Fd { lhs, .. } => lhs.intersects(columns),
-        Dep::Mvd { .. } => false,
-    }
-}
-
-// The columns that changed, with the right side of a dependency that made changes.
-fn with_changed(columns: AttrSet, dep: Dep, changed: bool) -> AttrSet {
-    if !changed {
-        return columns;
-    }
-    let (_, rhs) = sides(dep);
-    columns.union(rhs)
-}
-
-// Takes the steps of each functional dependency in turn, and says whether there were some. The columns
-// that change are noted.
+// Takes the steps of each functional dependency in turn, and says whether there were some.
 fn take_steps(
     alloc: Global,
     rows: &mut [SymbolRow],
     deps: &[Dep],
     width: u8,
-    columns: &mut AttrSet,
 ) -> Result<bool, OutOfMemory>
     requires width { width ≤ MOST_ATTRIBUTES }
     requires over { IsTableauOver width rows.old }
@@ -156,7 +87,6 @@ fn take_steps(
     for dep in deps {
         if take_steps_by(alloc, rows, *dep, width, &mut apart)? {
             changed = true;
-            *columns = with_changed(*columns, *dep, true);
         }
     }
     Ok(changed)
@@ -210,9 +140,18 @@ fn equate_groups(
         return Ok(false);
     }
     let listed = members(alloc, rhs, width)?;
+    let mut likely = LikelyRows::none(alloc);
     let mut changed = false;
     for i in 0..rows.len() {
-        if equate(rows, leaders[i] as usize, i, rhs, &listed, width) {
+        if equate(
+            rows,
+            leaders[i] as usize,
+            i,
+            rhs,
+            &listed,
+            width,
+            &mut likely,
+        ) {
             changed = true;
         }
     }
@@ -249,58 +188,4 @@ fn unless_changed(apart: Option<AttrSet>, changed: bool) -> Option<AttrSet>
         → IsKeptApart result s }
 {
     if changed { None } else { apart }
-}
-
-// Makes two rows agree on a set, whose attributes these are.
-fn equate(
-    rows: &mut [SymbolRow],
-    first: usize,
-    second: usize,
-    on: AttrSet,
-    listed: &[u8],
-    width: u8,
-) -> bool
-    requires over { IsTableauOver width rows.old }
-    requires first { first < length rows.old }
-    requires second { second < length rows.old }
-    requires attributes { listed.now ≡ members_below width (attributes on) }
-    ensures equated { AreEquated (attributes on) first second rows.old rows.new result }
-{
-    let mut changed = false;
-    for k in 0..listed.len() {
-        if equate_at(rows, first, second, listed[k] as usize) {
-            changed = true;
-        }
-    }
-    changed
-}
-
-// Makes two rows agree at an attribute: the greater symbol becomes the smaller throughout.
-fn equate_at(rows: &mut [SymbolRow], first: usize, second: usize, a: usize) -> bool
-    requires within { All (λ row. a < length row) rows.old }
-    requires first { first < length rows.old }
-    requires second { second < length rows.old }
-    ensures equated { IsEquatedAt a first second rows.old rows.new result }
-{
-    let one = rows[first].symbol(a);
-    let other = rows[second].symbol(a);
-    if one == other {
-        return false;
-    }
-    if one < other {
-        replace(rows, a, other, one);
-    } else {
-        replace(rows, a, one, other);
-    }
-    true
-}
-
-// Makes a symbol another throughout an attribute.
-fn replace(rows: &mut [SymbolRow], a: usize, former: u32, later: u32)
-    requires within { All (λ row. a < length row) rows.old }
-    ensures replaced { rows.new ≡ replace_symbol a former later rows.old }
-{
-    for i in 0..rows.len() {
-        rows[i].replace(a, former, later);
-    }
 }

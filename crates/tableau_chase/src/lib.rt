@@ -12,7 +12,10 @@
 
 mod adding;
 mod chasing;
+mod equating;
+mod following;
 mod functional_closing;
+mod likely_rows;
 mod making;
 mod numbers;
 mod outcome;

@@ -1,4 +1,4 @@
-ghost use Rattle.std.specs.Prelude.{◌≡◌, ℕ, ◌<◌, ◌≤◌, ◌==◌, List, length, map, slice_index, IfOk, if◌then◌else◌};
+ghost use Rattle.std.specs.Prelude.{◌≡◌, ℕ, ◌<◌, ◌≤◌, ◌==◌, List, length, map, slice_index, IsTrue, IfOk, if◌then◌else◌};
 ghost use Rattle.std.specs.List.{list_all};
 ghost use Rattle.attr_sets.specs.Sets.{attributes};
 ghost use Rattle.attr_sets.specs.declared.set.TheConstants.{MOST_ATTRIBUTES};
@@ -92,6 +92,31 @@ impl SymbolRow {
         Ok(symbols)
     }
 
+    /// Whether this row and another have the same symbols at some attributes.
+    pub fn agrees(&self, other: &SymbolRow, listed: &[u8]) -> bool
+        requires within { (k : ℕ) → k < length listed.now → slice_index listed.now k < length self.now }
+        requires same_length { length other.now ≡ length self.now }
+        ensures agree { IsTrue result → map (symbol_at self.now) listed.now ≡ map (symbol_at other.now) listed.now }
+    {
+        for k in 0..listed.len() {
+            if self.symbols[listed[k] as usize] != other.symbols[listed[k] as usize] {
+                return false;
+            }
+        }
+        true
+    }
+
+    /// The sum of the numbers of its symbols at some attributes. It serves speed alone, and so it has no clause.
+    pub fn sum_at(&self, listed: &[u8]) -> u64 {
+        let mut sum: u64 = 0;
+        for a in listed {
+            if let Some(symbol) = self.symbols.get(*a as usize) {
+                sum = sum.wrapping_add(spread(*a, *symbol));
+            }
+        }
+        sum
+    }
+
     /// All symbols, in memory of their own.
     pub fn symbols(&self, alloc: Global) -> Result<Vec<u32>, OutOfMemory>
         ensures symbols { IfOk result (λ symbols. symbols.items ≡ self.now) }
@@ -121,4 +146,12 @@ fn one_of(first: bool, one: u32, other: u32) -> u32
     ensures symbol { result ≡ (if first then one else other) }
 {
     if first { one } else { other }
+}
+
+/// The number of a symbol at an attribute, which is spread over all bits. It serves speed alone.
+pub fn spread(a: u8, symbol: u32) -> u64 {
+    let number = u64::from(symbol).wrapping_add(u64::from(a).wrapping_mul(0x1_0000_0001_0001));
+    let mixed = number.wrapping_mul(0x9E37_79B9_7F4A_7C15);
+    let turned = (mixed ^ (mixed >> 29)).wrapping_mul(0xBF58_476D_1CE4_E5B9);
+    turned ^ (turned >> 32)
 }

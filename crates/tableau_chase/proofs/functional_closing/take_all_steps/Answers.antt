@@ -1,6 +1,6 @@
 -- What is left to prove of `take_all_steps`: what `follow_steps` requires, and its clauses where there were
 -- steps, by `EquatingLemmas`.
-use Rattle.std.proofs.Common.{Bool, subst, sym}
+use Rattle.std.proofs.Common.{Bool, subst}
 use Rattle.std.proofs.lemmas.Bool.{true≢false}
 use Rattle.dep_model.specs.Deps.{dependencies_of}
 use Rattle.tableau_chase.specs.Equating.{Changes}
