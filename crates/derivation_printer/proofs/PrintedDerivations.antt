@@ -137,9 +137,13 @@ cut_proper naming names n p d are is =
 
 further_proper : (naming : Naming) (names : List (List ℕ)) (n p q : ℕ) (d : Dependency) (r : Further) → AreReadBack format.Plain naming names
     → IsPrintable names n d (by_further r p q) → AreProper naming (parts_with names d (further_name r) (two_numbers p q))
-further_proper naming names n p q d r are is =
-    (printed_names format.Plain naming names (left_of d) are, (printed_names format.Plain naming names (right_of d) are,
-    further_bare naming r (two_numbers p q) (is.body.0, (is.body.1, tt))))
+further_proper naming names n p q d r are is = (
+  printed_names format.Plain naming names (left_of d) are,
+  (
+    printed_names format.Plain naming names (right_of d) are,
+    further_bare naming r (two_numbers p q) (is.body.0, (is.body.1, tt)),
+  ),
+)
 
 line_bytes : (naming : Naming) (names : List (List ℕ)) (n : ℕ) (d : Dependency) (b : DerivationBody) → AreReadBack format.Plain naming names
     → IsPrintable names n d b → Bytes (text_of_body naming names n d b)
@@ -346,11 +350,11 @@ printed_derivation s items d names gives concludes few =
     let before : List Line = concludes.0 in
     let last : Line = concludes.1 in
     let whole : numbered_after 0 lines ≡ numbered_after 0 before ++ numbered (0 + length before + 1) last ∷ [] =
-        ap (numbered_after 0) concludes.2 ∙ numbered_append 0 before last in
+    ap (numbered_after 0) concludes.2 ∙ numbered_append 0 before last in
     let texts = lines_kept (naming_of s) (names_of s) (numbered_after 0 lines) are printable in
     let mean : MeanDerivationLines (naming_of s) (names_of s) (certificate_lines (naming_of s) (codes "yes\n" ++ derivation_text s lines)) (numbered_after 0 lines) =
-        subst (λ (ts : List (List ℕ)). MeanDerivationLines (naming_of s) (names_of s) ts (numbered_after 0 lines)) (sym texts)
-        (each_means (naming_of s) (names_of s) (numbered_after 0 lines) are printable) in
+    subst (λ (ts : List (List ℕ)). MeanDerivationLines (naming_of s) (names_of s) ts (numbered_after 0 lines)) (sym texts)
+    (each_means (naming_of s) (names_of s) (numbered_after 0 lines) are printable) in
     let derived = lines_derived s [] lines gives in
     record {
       before = numbered_after 0 before;

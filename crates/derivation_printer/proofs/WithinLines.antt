@@ -143,7 +143,7 @@ lines_derived s before [] gives = tt {0}
 lines_derived s before (l ∷ ls) (gives, rest) = (
   record { number = refl; states = gives_outcome s before l.stated l.why gives },
   subst (λ (n : ℕ). AreDerived s (before ++ l.stated ∷ []) (numbered_after n ls)) (length-append before (l.stated ∷ []))
-  (lines_derived s (before ++ l.stated ∷ []) ls rest),
+      (lines_derived s (before ++ l.stated ∷ []) ls rest),
 )
 
 pub line_at : (P : Line → Type 0) (items : List Inference) (k : ℕ) (d : Inference) → k < length items → All P (lines_of items)

@@ -41,7 +41,6 @@ never x y v w e = cc
 -- ---- one line
 -- a line alone, whatever it states
 module _ (d : Dependency) (l : Line) (states : l.stated ≡ d) where
-
   once_alone : NoneIsRepeated (l ∷ [])
   once_alone i j e earlier low = absurd (omega (arith, earlier, low))
 

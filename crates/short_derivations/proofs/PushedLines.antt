@@ -34,9 +34,11 @@ pub given_push : (s : Theory) (before : List Dependency) (ls : List Line) (l : L
     → Gives s (before ++ stated_by ls) l.why l.stated → AreGiven s before (ls ++ l ∷ [])
 given_push s before [] l given gives =
     (subst (λ (ds : List Dependency). Gives s ds l.why l.stated) (append-nil before) gives, tt)
-given_push s before (m ∷ ls) l given gives =
-    (given.0, given_push s (before ++ m.stated ∷ []) ls l given.1
-    (subst (λ (ds : List Dependency). Gives s ds l.why l.stated) (sym (append_assoc before (m.stated ∷ []) (stated_by ls))) gives))
+given_push s before (m ∷ ls) l given gives = (
+  given.0,
+  given_push s (before ++ m.stated ∷ []) ls l given.1
+      (subst (λ (ds : List Dependency). Gives s ds l.why l.stated) (sym (append_assoc before (m.stated ∷ []) (stated_by ls))) gives),
+)
 
 -- ---- each line is used, but for some
 abbrev pub UsedUnless : (ℕ → Type 0) → List Line → Type 0
@@ -118,8 +120,7 @@ lines_next items k d low = rw add-one (ap lines_of (take-suc items k d low) ∙ 
 pub ends_at : (items : List Inference) (k : ℕ) (d : Inference) (e : Dependency) → k + 1 ≡ length items → dependency_of (get_or items k d).stated ≡ e
     → Concludes (lines_of items) e
 ends_at items k d e last states =
-    let all : take (k + 1) items ≡ items = take_all (k + 1) items (omega (arith, last)) in
-    (
+    let all : take (k + 1) items ≡ items = take_all (k + 1) items (omega (arith, last)) in (
       lines_of (take k items),
       line_of (get_or items k d),
       ap lines_of (sym all) ∙ lines_next items k d (omega (arith, last)),

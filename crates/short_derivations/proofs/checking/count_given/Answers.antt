@@ -22,7 +22,7 @@ loop-line-preserved c =
       | then-is_given+else-not-is_said w ↦
           let next = givens_next_given items k _ c.loop-line-test.true (sym c.is_given.ensures.given ∙ w.if-is_given.true) in
           let longer : length (givens_of (lines_of (take (k + 1) items))) ≡ length (givens_of (lines_of (take k items))) + 1 =
-              ap length next ∙ length-append (givens_of (lines_of (take k items))) _ in
+          ap length next ∙ length-append (givens_of (lines_of (take k items))) _ in
           record {
             count = w.count-is ∙ (omega (arith, before.count, longer));
             from = subst (All P) (sym next) (All-push P (givens_of (lines_of (take k items))) _ before.from (w.is_said.ensures.said w.if-not-is_said.false));

@@ -60,7 +60,7 @@ returns c =
     let first : IsTried s links d most lines = tried_linked s links d most lines linked small in
     let second = c.shorter-lines.ensures.tried most (subst (λ (ls : List Link). IsTried s ls d most lines) (sym c.deref-4.ensures.value) first) in
     let third = c.shorter.ensures.tried most (subst (λ (ls : List Link). IsTried s ls d most (lines_of c.shorter-lines.result.items))
-        (c.deref-4.ensures.value ∙ sym c.deref-6.ensures.value) second) in
+    (c.deref-4.ensures.value ∙ sym c.deref-6.ensures.value) second) in
     record {
       thrifty = thrifty_tried s links d most (lines_of c.shorter.result.items)
           (subst (λ (ls : List Link). IsTried s ls d most (lines_of c.shorter.result.items)) c.deref-6.ensures.value third) c.in_ok-links.ensures.needed;

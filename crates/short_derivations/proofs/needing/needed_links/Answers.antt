@@ -31,7 +31,7 @@ loop-k-preserved c =
     let sliced : take (length links - (k + 1)) rest ≡ rest = take_all (length links - (k + 1)) rest (omega (arith, length-drop (k + 1) links)) in
     let tested = rw (c.deref.ensures.value, sliced) at c.in_ok-follows_without.ensures.implied in
     let needed : All (IsNeeded n goal_dep (said_by (kept ++ l ∷ rest))) (said_by kept) =
-        subst (λ (ds : List Link). All (IsNeeded n goal_dep (said_by (kept ++ ds))) (said_by kept)) cut before.needed in
+    subst (λ (ds : List Link). All (IsNeeded n goal_dep (said_by (kept ++ ds))) (said_by kept)) cut before.needed in
     elim c.if-not-branch.branch [
       | then-not-branch+in_ok-push w ↦
           let items : c.if-not-branch.kept.items ≡ kept ++ l ∷ [] = ap (λ v. v.items) w.kept-is ∙ w.in_ok-push.ensures.items in
@@ -57,5 +57,5 @@ returns-clause-needed c =
     let goal_dep = dependency_of c.args.goal in
     let kept = c.loop-k.kept.items in
     let none : kept ++ drop c.loop-k.k c.args.links.now ≡ kept =
-        ap (λ (ds : List Link). kept ++ ds) (drop_all c.loop-k.k c.args.links.now c.loop-k-test.false) ∙ append-nil kept in
+    ap (λ (ds : List Link). kept ++ ds) (drop_all c.loop-k.k c.args.links.now c.loop-k-test.false) ∙ append-nil kept in
     subst (λ (ds : List Link). All (IsNeeded n goal_dep (said_by ds)) (said_by kept)) none c.loop-k.invariant.needed
