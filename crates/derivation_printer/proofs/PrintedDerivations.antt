@@ -1,8 +1,9 @@
 -- What is printed of a derivation, after the answer `yes`, derives what its last line states.
-use Rattle.std.proofs.Common.{◌≡◌, ◌<◌, ◌≤◌, ◌^◌, ℕ, ◌+◌, true, false, not, List, [], ◌∷◌, ◌++◌, length, refl, ap, sym, ◌∙◌, subst, arith, append_assoc, length-append}
+use Rattle.std.proofs.Common.{◌≡◌, ◌<◌, ◌≤◌, ◌^◌, ℕ, ◌+◌, true, false, not, List, [], ◌∷◌, ◌++◌, length, refl, ap, sym, ◌∙◌, subst, arith, append_assoc, length-append, length-take, get_or, take}
 use Rattle.std.specs.Prelude.{Some, slice_get, All, codes, decimal, map, filter}
 use Rattle.std.specs.List.{flat_map, AllZip}
 use Rattle.std.proofs.lemmas.List.{append-nil, length-map}
+use Rattle.std.proofs.lemmas.Grind.{flat_map-append}
 use Rattle.std.proofs.lemmas.List.Elements.{All-head, All-tail}
 use Rattle.std.proofs.lemmas.Option.{slice_get_within}
 use Rattle.attr_sets.specs.Attributes.{Attributes, IsSubset, below}
@@ -47,6 +48,7 @@ use Rattle.short_derivations.specs.Inferences.{Line, AreGiven}
 use Rattle.short_derivations.specs.Short.{Concludes}
 use Rattle.short_derivations.specs.Views.{line_of, lines_of}
 use Rattle.derivation_printer.specs.Printing.{body_of, numbered, numbered_after, further_word, derivation_body_text, derivation_line_text, derivation_text, IsDerivationBodyWithin, IsLineWithin, NumbersFit}
+use Rattle.short_derivations.proofs.PushedLines.{lines_next}
 use Rattle.derivation_printer.proofs.WithinLines.{lines_within, lines_derived}
 
 -- ---- the parts of a line with a further rule
@@ -135,9 +137,13 @@ cut_proper naming names n p d are is =
 
 further_proper : (naming : Naming) (names : List (List ℕ)) (n p q : ℕ) (d : Dependency) (r : Further) → AreReadBack format.Plain naming names
     → IsPrintable names n d (by_further r p q) → AreProper naming (parts_with names d (further_name r) (two_numbers p q))
-further_proper naming names n p q d r are is =
-    (printed_names format.Plain naming names (left_of d) are, (printed_names format.Plain naming names (right_of d) are,
-    further_bare naming r (two_numbers p q) (is.body.0, (is.body.1, tt))))
+further_proper naming names n p q d r are is = (
+  printed_names format.Plain naming names (left_of d) are,
+  (
+    printed_names format.Plain naming names (right_of d) are,
+    further_bare naming r (two_numbers p q) (is.body.0, (is.body.1, tt)),
+  ),
+)
 
 line_bytes : (naming : Naming) (names : List (List ℕ)) (n : ℕ) (d : Dependency) (b : DerivationBody) → AreReadBack format.Plain naming names
     → IsPrintable names n d b → Bytes (text_of_body naming names n d b)
@@ -311,7 +317,7 @@ body_printable s l n within small fits = record { stated = within.stated; small 
 
 all_printable : (s : Schema) (before : List Dependency) (ls : List Line) (n : ℕ) → AreGiven (theory_in s) before ls
     → All (IsLineWithin (universe_of s)) ls → n + length ls ≤ MOST_NODES → ArePrintable (names_of s) (numbered_after n ls)
-all_printable s before [] n given within few = tt {0}
+all_printable s before [] n gives within few = tt {0}
 all_printable s before (l ∷ ls) n (gives, rest) within few = (
   body_printable s l (n + 1) (All-head (IsLineWithin (universe_of s)) l ls within) (omega (arith, few)) (leaf_fits s before l.why l.stated gives),
   all_printable s (before ++ l.stated ∷ []) ls (n + 1) rest (All-tail (IsLineWithin (universe_of s)) l ls within) (omega (arith, few)),
@@ -336,25 +342,40 @@ pub printed_derivation : (s : Schema) (items : List Inference) (d : Dependency) 
     → AreGiven (theory_in s) [] (lines_of items) → Concludes (lines_of items) d → length items ≤ MOST_NODES
     → Derives s (codes "yes\n" ++ derivation_text s (lines_of items)) d
 unfolding printed_names_of
-printed_derivation s items d names given concludes few =
+printed_derivation s items d names gives concludes few =
     let lines = lines_of items in
     let are : AreReadBack format.Plain (naming_of s) (names_of s) = record { each = names; differ = s.valid.names_differ } in
     let long : length lines ≡ length items = length-map items line_of in
-    let printable = all_printable s [] lines 0 given (lines_within s items few given) (omega (arith, few, long)) in
+    let printable = all_printable s [] lines 0 gives (lines_within s items few gives) (omega (arith, few, long)) in
     let before : List Line = concludes.0 in
     let last : Line = concludes.1 in
     let whole : numbered_after 0 lines ≡ numbered_after 0 before ++ numbered (0 + length before + 1) last ∷ [] =
-        ap (numbered_after 0) concludes.2 ∙ numbered_append 0 before last in
+    ap (numbered_after 0) concludes.2 ∙ numbered_append 0 before last in
     let texts = lines_kept (naming_of s) (names_of s) (numbered_after 0 lines) are printable in
     let mean : MeanDerivationLines (naming_of s) (names_of s) (certificate_lines (naming_of s) (codes "yes\n" ++ derivation_text s lines)) (numbered_after 0 lines) =
-        subst (λ (ts : List (List ℕ)). MeanDerivationLines (naming_of s) (names_of s) ts (numbered_after 0 lines)) (sym texts)
-        (each_means (naming_of s) (names_of s) (numbered_after 0 lines) are printable) in
-    let derived = lines_derived s [] lines given in
+    subst (λ (ts : List (List ℕ)). MeanDerivationLines (naming_of s) (names_of s) ts (numbered_after 0 lines)) (sym texts)
+    (each_means (naming_of s) (names_of s) (numbered_after 0 lines) are printable) in
+    let derived = lines_derived s [] lines gives in
     record {
       before = numbered_after 0 before;
       last = numbered (0 + length before + 1) last;
-      mean = rw whole at mean;
-      derived = rw whole at derived;
+      mean = subst (λ (ls : List DerivationLine). MeanDerivationLines (naming_of s) (names_of s)
+          (certificate_lines (naming_of s) (codes "yes\n" ++ derivation_text s lines)) ls) whole mean;
+      derived = subst (λ (ls : List DerivationLine). AreDerived s [] ls) whole derived;
       lines_fit = omega (arith, ap length whole, length_numbered 0 lines, long, few);
       states = concludes.3;
     }
+
+-- ---- the text, line by line
+pub text_next : (s : Schema) (items : List Inference) (k : ℕ) (d : Inference) → k < length items
+    → derivation_text s (lines_of (take (k + 1) items))
+    ≡ derivation_text s (lines_of (take k items)) ++ derivation_line_text (printed_names_of s) (numbered (k + 1) (line_of (get_or items k d)))
+text_next s items k d low =
+    let f = derivation_line_text (printed_names_of s) in
+    let ls : List Line = lines_of (take k items) in
+    let l : Line = line_of (get_or items k d) in
+    let at : 0 + length ls + 1 ≡ k + 1 = omega (arith, low, length-map (take k items) line_of, length-take k items) in
+    ap (derivation_text s) (lines_next items k d low)
+    ∙ ap (flat_map f) (numbered_append 0 ls l ∙ ap (λ (n : ℕ). numbered_after 0 ls ++ numbered n l ∷ []) at)
+    ∙ flat_map-append f (numbered_after 0 ls) (numbered (k + 1) l ∷ [])
+    ∙ ap (λ (t : List ℕ). flat_map f (numbered_after 0 ls) ++ t) (append-nil (f (numbered (k + 1) l)))

@@ -1,8 +1,10 @@
 -- The lines of a derivation can be printed: their sets lie within the universe, and their numbers fit. And
 -- they are derived, by the grammar of derivations.
-use Rattle.std.proofs.Common.{◌≡◌, ◌<◌, ◌≤◌, ℕ, ◌+◌, ◌-◌, ◌==◌, ◌&&◌, true, false, List, [], ◌∷◌, ◌++◌, length, refl, ap, sym, ◌∙◌, subst, arith, length-append}
+use Rattle.std.proofs.Common.{◌≡◌, ◌<◌, ◌≤◌, ℕ, ◌+◌, ◌-◌, ◌==◌, ◌&&◌, true, false, List, [], ◌∷◌, ◌++◌, length, refl, ap, sym, ◌∙◌, subst, arith, get_or, length-append}
 use Rattle.std.specs.Prelude.{Some, Ok, slice_get, All, Result}
 use Rattle.std.proofs.lemmas.Bool.Decides.{nat_tests}
+use Rattle.std.proofs.Math.ListN.{get_or-map}
+use Rattle.std.proofs.lemmas.List.{length-map}
 use Rattle.std.proofs.lemmas.Option.{slice_get_within, get_or_from_slice_get}
 use Rattle.std.proofs.lemmas.List.Elements.{All-push, All-nil, All-cons, All-contains}
 use Rattle.attr_sets.specs.Sets.{attributes, is_subset}
@@ -58,8 +60,8 @@ leaf_body_within s (leaves.Given k) = tt {0}
 leaf_body_within s (leaves.Reflexivity x y) = tt {0}
 leaf_body_within s (leaves.MReflexivity x y) = tt {0}
 
-holds_at : {P : Dependency → Type 0} (before : List Dependency) (p : ℕ) (x : Dependency) → All P before → slice_get before p ≡ Some x → P x
-holds_at {P} before p x all stands =
+holds_at : (P : Dependency → Type 0) (before : List Dependency) (p : ℕ) (x : Dependency) → All P before → slice_get before p ≡ Some x → P x
+holds_at P before p x all stands =
     All-contains P before x all (p, slice_get_within before p x stands, get_or_from_slice_get before p x x stands)
 
 line_within : (s : Schema) (before : List Dependency) (stated : Dep) (reason : Reason) → All (IsWithin (universe_of s)) before
@@ -71,22 +73,22 @@ line_within s before stated (reasons.Leaf rule) all fit gives = record {
   numbers = tt {0};
 }
 line_within s before stated (reasons.Step rule p) all fit (x, stands, gives) = record {
-  stated = step_within (theory_in s) (step_of rule) x (dependency_of stated) (step_own rule) (holds_at before p x all stands) gives;
+  stated = step_within (theory_in s) (step_of rule) x (dependency_of stated) (step_own rule) (holds_at (IsWithin (universe_of s)) before p x all stands) gives;
   body = printed.step_within s (step_of rule) x (dependency_of stated) (step_own rule) gives;
   numbers = omega (arith, fit, slice_get_within before p x stands);
 }
 line_within s before stated (reasons.Pair rule p q) all fit (x, y, first, second, gives) = record {
-  stated = pair_within (theory_in s) _ x y (dependency_of stated) (holds_at before p x all first) (holds_at before q y all second) gives;
+  stated = pair_within (theory_in s) _ x y (dependency_of stated) (holds_at (IsWithin (universe_of s)) before p x all first) (holds_at (IsWithin (universe_of s)) before q y all second) gives;
   body = tt {0};
   numbers = (omega (arith, fit, slice_get_within before p x first), omega (arith, fit, slice_get_within before q y second));
 }
 line_within s before stated (reasons.Decomposition p) all fit (x, stands, gives) = record {
-  stated = decomposition_within (universe_of s) (dependency_of stated) x (dependency_of stated) (right_own stated) (holds_at before p x all stands) gives;
+  stated = decomposition_within (universe_of s) (dependency_of stated) x (dependency_of stated) (right_own stated) (holds_at (IsWithin (universe_of s)) before p x all stands) gives;
   body = tt {0};
   numbers = omega (arith, fit, slice_get_within before p x stands);
 }
 line_within s before stated (reasons.Further rule p q) all fit (x, y, first, second, gives) = record {
-  stated = further_within (universe_of s) _ x y (dependency_of stated) (holds_at before p x all first) (holds_at before q y all second) gives;
+  stated = further_within (universe_of s) _ x y (dependency_of stated) (holds_at (IsWithin (universe_of s)) before p x all first) (holds_at (IsWithin (universe_of s)) before q y all second) gives;
   body = tt {0};
   numbers = (omega (arith, fit, slice_get_within before p x first), omega (arith, fit, slice_get_within before q y second));
 }
@@ -94,7 +96,7 @@ line_within s before stated (reasons.Further rule p q) all fit (x, y, first, sec
 lines_within_after : (s : Schema) (before : List Dependency) (items : List Inference) → All (IsWithin (universe_of s)) before
     → length before + length items ≤ MOST_NODES → AreGiven (theory_in s) before (lines_of items)
     → All (IsLineWithin (universe_of s)) (lines_of items)
-lines_within_after s before [] all fit given = All-nil (IsLineWithin (universe_of s))
+lines_within_after s before [] all fit gives = All-nil (IsLineWithin (universe_of s))
 lines_within_after s before (i ∷ is) all fit (gives, rest) =
     let one = line_within s before i.stated i.reason all (omega (arith, fit)) gives in
     let d = dependency_of i.stated in
@@ -104,7 +106,7 @@ lines_within_after s before (i ∷ is) all fit (gives, rest) =
 
 pub lines_within : (s : Schema) (items : List Inference) → length items ≤ MOST_NODES → AreGiven (theory_in s) [] (lines_of items)
     → All (IsLineWithin (universe_of s)) (lines_of items)
-lines_within s items fit given = lines_within_after s [] items (All-nil (IsWithin (universe_of s))) fit given
+lines_within s items fit gives = lines_within_after s [] items (All-nil (IsWithin (universe_of s))) (omega (arith, fit)) gives
 
 -- ---- derived, by the grammar
 stated_next : (before : List Dependency) (p : ℕ) (x : Dependency) → slice_get before p ≡ Some x → stated_at before (p + 1) ≡ Some x
@@ -137,9 +139,15 @@ gives_outcome s before d (by_further rule p q) (x, y, first, second, gives) =
 
 pub lines_derived : (s : Schema) (before : List Dependency) (lines : List Line) → AreGiven (theory_in s) before lines
     → AreDerived s before (numbered_after (length before) lines)
-lines_derived s before [] given = tt {0}
+lines_derived s before [] gives = tt {0}
 lines_derived s before (l ∷ ls) (gives, rest) = (
   record { number = refl; states = gives_outcome s before l.stated l.why gives },
   subst (λ (n : ℕ). AreDerived s (before ++ l.stated ∷ []) (numbered_after n ls)) (length-append before (l.stated ∷ []))
-  (lines_derived s (before ++ l.stated ∷ []) ls rest),
+      (lines_derived s (before ++ l.stated ∷ []) ls rest),
 )
+
+pub line_at : (P : Line → Type 0) (items : List Inference) (k : ℕ) (d : Inference) → k < length items → All P (lines_of items)
+    → P (line_of (get_or items k d))
+line_at P items k d low all =
+    let short : k < length (lines_of items) = omega (arith, low, length-map items line_of) in
+    subst P (get_or-map line_of items k d) (all k (line_of d) short)

@@ -43,11 +43,7 @@ pub fn explain_implication(
 }
 
 /// The answer to a goal.
-fn explanation_response(
-    alloc: Global,
-    schema: &Schema,
-    dep: Dep,
-) -> Result<Response, OutOfMemory>
+fn explanation_response(alloc: Global, schema: &Schema, dep: Dep) -> Result<Response, OutOfMemory>
     requires { IsDepWithin (universe_of schema.now) dep }
     ensures response { IfOk result (λ response. ExplainsGoal schema.now (dependency_of dep)
         (response_value response)) }

@@ -1,6 +1,6 @@
 -- How references are found, one target after the other: for `all_references` and the functions below it.
 -- `Desk` does not cite it.
-use Rattle.std.specs.Prelude.{◌≡◌, ◌<◌, ◌⊎◌, ℕ, true, Some, List, [], ◌∷◌, All, length, Contains}
+use Rattle.std.specs.Prelude.{◌≡◌, ◌+◌, ◌<◌, ◌≤◌, ◌⊎◌, ℕ, true, Some, List, [], ◌∷◌, All, length, Contains}
 use Rattle.std.specs.List.{AllZip}
 use Rattle.attr_sets.specs.Attributes.{Attributes, count_below}
 use Rattle.attr_sets.specs.Sets.{attributes}
@@ -49,12 +49,17 @@ pub record IsTargetOf (files : List HeadedRows) (target : Target) : Type 0 where
 abbrev pub RefersTo : Target → Reference → Type 0
 RefersTo target ref = (ref.target ≡ target.file) × (ref.key ≡ target.columns.items)
 
--- and from this file, from one of the first n files, and from one of the first n columns of this file
+-- and from this file
 abbrev pub RefersFrom : Target → ℕ → Reference → Type 0
 RefersFrom target file ref = RefersTo target ref × (ref.file ≡ file)
 
+-- one of the first n files in turn: those before a file from the last on, and then it and those after it
+abbrev pub IsInTurn : ℕ → ℕ → ℕ → Type 0
+IsInTurn target n file = ((file < target) × (target < file + n + 1)) ⊎ ((target ≤ file) × (file < n))
+
+-- from one of these, and from one of the first n columns of this file
 abbrev pub RefersFromFirst : Target → ℕ → Reference → Type 0
-RefersFromFirst target n ref = RefersTo target ref × (ref.file < n)
+RefersFromFirst target n ref = RefersTo target ref × IsInTurn target.file n ref.file
 
 abbrev pub RefersFromColumns : Target → ℕ → ℕ → Reference → Type 0
 RefersFromColumns target file n ref =

@@ -1,6 +1,6 @@
 //! The sources that refer to a target.
 
-ghost use Rattle.std.specs.Prelude.{◌≡◌, ◌↔◌, ◌<◌, ℕ, true, List, length, map, All, IfOk, IsTrue, MatchOption, OnOk};
+ghost use Rattle.std.specs.Prelude.{◌≡◌, ◌↔◌, ◌+◌, ◌<◌, ◌≤◌, ℕ, true, List, length, map, All, IfOk, IsTrue, MatchOption, OnOk};
 ghost use Rattle.dep_model.specs.Tuples.{IsOver};
 ghost use Rattle.file_references.specs.Columns.{file_at};
 ghost use Rattle.file_references.specs.Finds.{Adds, AllAre, AreNamedAs, AreReferences, FitsFile, IsTargetOf, IsThis};
@@ -37,7 +37,8 @@ pub fn add_sources(
         → OnOk result (Adds (map headed_of files.now) (RefersTo target.now)
         (map reference_of found.old.items) (map reference_of found.new.items)) }
 {
-    for file in 0..files.len() {
+    for turn in 0..files.len() {
+        let file = file_in_turn(target.file, turn);
         if target.columns.len() == 1 {
             add_columns(alloc, files, file, target, found)?;
         } else {
@@ -45,6 +46,19 @@ pub fn add_sources(
         }
     }
     Ok(())
+}
+
+// The file that is looked at in a turn: the files before that of the target come first, the nearest before all. The
+// references to their keys are known, so where these refer to the target, what refers to them follows.
+fn file_in_turn(target: usize, turn: usize) -> usize
+    ensures before { turn < target → result + turn + 1 ≡ target }
+    ensures after { target ≤ turn → result ≡ turn }
+{
+    if turn < target {
+        target - turn - 1
+    } else {
+        turn
+    }
 }
 
 // Adds the references from single columns of a file.

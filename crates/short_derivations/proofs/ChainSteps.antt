@@ -69,10 +69,9 @@ fresh lines c d within past k e low same =
 
 -- ---- a chain begins
 module _ (s : Theory) (links : List Link) (x y v t : Attributes) (k : ℕ)
-  (said : Contains (said_by links) (fd v t)) (less : beyond (union t x) links + 1 ≤ length links)
-  (is : slice_get (theory_of s) k ≡ Some (fd v t)) (inside : IsSubset v x) (past : IsSubset t x → ⊥)
-  (other : fd v t ≡ fd x y → ⊥) where
-
+    (said : Contains (said_by links) (fd v t)) (less : beyond (union t x) links + 1 ≤ length links)
+    (is : slice_get (theory_of s) k ≡ Some (fd v t)) (inside : IsSubset v x) (past : IsSubset t x → ⊥)
+    (other : fd v t ≡ fd x y → ⊥) where
   begun_wider : IsSubset (union t x) x → ⊥
   begun_wider all = past (λ j m. all j (grind (arith, m)))
 
@@ -105,8 +104,8 @@ module _ (s : Theory) (links : List Link) (x y v t : Attributes) (k : ℕ)
       let G : Line → Type 0 = λ l. l.stated ≡ fd x y → union t x ≡ y in
       let D : Line → Type 0 = λ l. l.stated ≡ fd x (union t x) → ⊥ in
       let apart : fd v t ≡ fd x (union t x) → ⊥ = λ e.
-          differs (λ j m. grind (arith, m, same_at (same_left v t x (union t x) e) j))
-          (λ j m. grind (arith, m, same_at (same_right v t x (union t x) e) j)) in
+      differs (λ j m. grind (arith, m, same_at (same_left v t x (union t x) e) j))
+      (λ j m. grind (arith, m, same_at (same_right v t x (union t x) e) j)) in
       let alone : NoneIsRepeated (first ∷ []) = λ i j d earlier low. absurd (omega (arith, earlier, low)) in
       record {
         given = (given_gives s [] k v t is, (lifted_gives s (fd v t ∷ []) 0 v t x refl inside within, tt));
@@ -126,12 +125,11 @@ module _ (s : Theory) (links : List Link) (x y v t : Attributes) (k : ℕ)
 
 -- ---- a chain goes on
 module _ (s : Theory) (links : List Link) (x y c v t : Attributes) (k : ℕ) (lines before : List Line) (last : Line)
-  (whole : lines ≡ before ++ last ∷ []) (ends : last.stated ≡ fd x c) (chain : IsChain s links x y c lines)
-  (said : Contains (said_by links) (fd v t)) (less : beyond (union t c) links + 1 ≤ beyond c links)
-  (is : slice_get (theory_of s) k ≡ Some (fd v t)) (inside : IsSubset v c) (past : IsSubset t c → ⊥)
-  (other : fd v t ≡ fd x y → ⊥) (missing : IsSubset y c → ⊥)
-  (restarts : IsSubset v x → IsSubset c (union t x) → ⊥) where
-
+    (whole : lines ≡ before ++ last ∷ []) (ends : last.stated ≡ fd x c) (chain : IsChain s links x y c lines)
+    (said : Contains (said_by links) (fd v t)) (less : beyond (union t c) links + 1 ≤ beyond c links)
+    (is : slice_get (theory_of s) k ≡ Some (fd v t)) (inside : IsSubset v c) (past : IsSubset t c → ⊥)
+    (other : fd v t ≡ fd x y → ⊥) (missing : IsSubset y c → ⊥)
+    (restarts : IsSubset v x → IsSubset c (union t x) → ⊥) where
   long : length lines ≡ length before + 1
   long = ap length whole ∙ length-append before (last ∷ [])
 
@@ -208,7 +206,7 @@ module _ (s : Theory) (links : List Link) (x y c v t : Attributes) (k : ℕ) (li
       let covered : t ≡ union t c = union_covered t c right in
       let same : givens_of (one ++ main ∷ []) ≡ givens_of lines ++ fd v t ∷ [] = givens_push one main ∙ append-nil (givens_of one) ∙ givens_one in
       let apart : fd v t ≡ fd x t → ⊥ = λ e.
-          restarts (IsSubset-same v x (same_left v t x t e)) (λ j m. let r = right j m in grind (arith, r)) in
+      restarts (IsSubset-same v x (same_left v t x t e)) (λ j m. let r = right j m in grind (arith, r)) in
       record {
         given = given_push s [] one main given_one
             (linked_gives s (stated_by one) (length before) (length lines) x c v t last_one link_one (same_from_within c v left inside));
@@ -241,31 +239,31 @@ module _ (s : Theory) (links : List Link) (x y c v t : Attributes) (k : ℕ) (li
       let two : List Line = one ++ lifted ∷ [] in
       let main : Line = linked_line (length before) (length lines + 1) x (union t c) in
       let same : givens_of (two ++ main ∷ []) ≡ givens_of lines ++ fd v t ∷ [] =
-          givens_push two main ∙ append-nil (givens_of two) ∙ givens_push one lifted ∙ append-nil (givens_of one) ∙ givens_one in
+      givens_push two main ∙ append-nil (givens_of two) ∙ givens_push one lifted ∙ append-nil (givens_of one) ∙ givens_one in
       let beyond_c : IsSubset (union t c) c → ⊥ = λ all. past (λ j m. all j (grind (arith, m))) in
       let apart : fd v t ≡ fd c (union t c) → ⊥ = λ e.
-          differs (λ j m. grind (arith, m, same_at (same_left v t c (union t c) e) j))
-          (λ j m. grind (arith, m, same_at (same_right v t c (union t c) e) j)) in
+      differs (λ j m. grind (arith, m, same_at (same_left v t c (union t c) e) j))
+      (λ j m. grind (arith, m, same_at (same_right v t c (union t c) e) j)) in
       let apart_main : fd v t ≡ fd x (union t c) → ⊥ = λ e.
-          restarts (IsSubset-same v x (same_left v t x (union t c) e))
-          (λ j m. grind (arith, m, same_at (same_right v t x (union t c) e) j)) in
+      restarts (IsSubset-same v x (same_left v t x (union t c) e))
+      (λ j m. grind (arith, m, same_at (same_right v t x (union t c) e) j)) in
       let apart_lifted : fd c (union t c) ≡ fd x (union t c) → ⊥ = λ e.
-          chain.wider (IsSubset-same c x (same_left c (union t c) x (union t c) e)) in
+      chain.wider (IsSubset-same c x (same_left c (union t c) x (union t c) e)) in
       let given_two : AreGiven s [] two = given_push s [] one lifted given_one
-          (lifted_gives s (stated_by one) (length lines) v t c link_one inside within) in
+      (lifted_gives s (stated_by one) (length lines) v t c link_one inside within) in
       let stated_two : stated_by two ≡ stated_by one ++ fd c (union t c) ∷ [] = stated_push one lifted in
       let last_two : slice_get (stated_by two) (length before) ≡ Some (fd x c) =
-          rw stated_two (stands_more (stated_by one) (fd c (union t c) ∷ []) (length before) (fd x c) last_one) in
+      rw stated_two (stands_more (stated_by one) (fd c (union t c) ∷ []) (length before) (fd x c) last_one) in
       let lifted_two : slice_get (stated_by two) (length lines + 1) ≡ Some (fd c (union t c)) =
-          subst (λ (n : ℕ). slice_get (stated_by two) n ≡ Some (fd c (union t c))) long_one (stated_last one lifted) in
+      subst (λ (n : ℕ). slice_get (stated_by two) n ≡ Some (fd c (union t c))) long_one (stated_last one lifted) in
       let D : Line → Type 0 = λ m. m.stated ≡ fd x (union t c) → ⊥ in
       let used_two : UsedUnless (λ j. (j ≡ length before) ⊎ (j ≡ length lines + 1)) two =
-          used_push (λ j. (j ≡ length before) ⊎ (j ≡ length lines)) (λ j. (j ≡ length before) ⊎ (j ≡ length lines + 1)) one lifted used_one
-          (λ j low pending. elim pending [
-            | inl first ↦ inr (inl first)
-            | inr second ↦ inl (0, omega arith, sym second)
-          ])
-          (inr long_one) in
+      used_push (λ j. (j ≡ length before) ⊎ (j ≡ length lines)) (λ j. (j ≡ length before) ⊎ (j ≡ length lines + 1)) one lifted used_one
+      (λ j low pending. elim pending [
+        | inl first ↦ inr (inl first)
+        | inr second ↦ inl (0, omega arith, sym second)
+      ])
+      (inr long_one) in
       record {
         given = given_push s [] two main given_two
             (linked_gives s (stated_by two) (length before) (length lines + 1) x c c (union t c) last_two lifted_two refl);
@@ -316,9 +314,9 @@ ended_by_cut s links x y c lines n chain inside wider number =
     let cut : Line = cut_line n x y in
     let at : length before ≡ n = omega (arith, number, ap length whole, length-append before (last ∷ [])) in
     let states : slice_get (stated_by lines) n ≡ Some (fd x c) =
-        ap (λ (ls : List Line). slice_get (stated_by ls) n) whole
-        ∙ ap (λ (m : ℕ). slice_get (stated_by (before ++ last ∷ [])) m) (sym at)
-        ∙ stated_last before last ∙ ap Some chain.last.3 in
+    ap (λ (ls : List Line). slice_get (stated_by ls) n) whole
+    ∙ ap (λ (m : ℕ). slice_get (stated_by (before ++ last ∷ [])) m) (sym at)
+    ∙ stated_last before last ∙ ap Some chain.last.3 in
     let same : givens_of (lines ++ cut ∷ []) ≡ givens_of lines = givens_push lines cut ∙ append-nil (givens_of lines) in
     let longer : length (lines ++ cut ∷ []) ≡ length lines + 1 = length-append lines (cut ∷ []) in
     record {

@@ -41,7 +41,6 @@ never x y v w e = cc
 -- ---- one line
 -- a line alone, whatever it states
 module _ (d : Dependency) (l : Line) (states : l.stated ≡ d) where
-
   once_alone : NoneIsRepeated (l ∷ [])
   once_alone i j e earlier low = absurd (omega (arith, earlier, low))
 
@@ -159,7 +158,7 @@ short_cut s x y v z t k lines x_in y_in missing new is left inside proves y_belo
     let last : Line = record { stated = fd x y; why = by_decomposition 0 } in
     rw all (record {
       short = record {
-        given = (rw is refl, ((fd v z, refl, rw (is_same-from x v (sym left), is_subset-from y z inside) (ap (λ (w : Attributes). Ok {E = FaultKind} (fd w y)) left)), tt));
+        given = (rw is refl, ((fd v z, refl, rw (is_same-from x v (sym left), is_subset-from y z inside) (ap (λ (w : Attributes). Ok (fd w y)) left)), tt));
         concludes = (first ∷ [], last, refl, refl);
         used = λ j low.
             let zeroth : 0 ≡ j = omega (arith, low) in

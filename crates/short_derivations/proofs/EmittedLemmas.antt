@@ -71,11 +71,10 @@ emitted_before s t old at d written proves stands = record {
 -- ---- a line more, after the lines of premises
 -- what a line that is new keeps, whatever its premises
 module _ (s : Theory) (t : Tree) (old mid : List Line) (l : Line) (added : List Line) (whole : mid ≡ old ++ added)
-  (written : AreWritten s mid) (gives : Gives s (stated_by mid) l.why l.stated) (proves : Proves s t l.stated)
-  (new : (e : Dependency) → Contains (stated_by mid) e → e ≡ l.stated → ⊥)
-  (parts : All (λ (e : Dependency). IsStatedOrPart s t old e) (stated_by mid))
-  (used : (k : ℕ) → length old ≤ k → k < length mid → IsUsed (mid ++ l ∷ []) k) (few : length mid + 1 ≤ length old + nodes t) where
-
+    (written : AreWritten s mid) (gives : Gives s (stated_by mid) l.why l.stated) (proves : Proves s t l.stated)
+    (new : (e : Dependency) → Contains (stated_by mid) e → e ≡ l.stated → ⊥)
+    (parts : All (λ (e : Dependency). IsStatedOrPart s t old e) (stated_by mid))
+    (used : (k : ℕ) → length old ≤ k → k < length mid → IsUsed (mid ++ l ∷ []) k) (few : length mid + 1 ≤ length old + nodes t) where
   pub emitted_line : AreEmitted s t old (length mid) (mid ++ l ∷ [])
   emitted_line =
       let long : length (mid ++ l ∷ []) ≡ length mid + 1 = length-append mid (l ∷ []) in
@@ -123,10 +122,14 @@ emitted_step s rule t old mid all p at d x new before direct proves gives at_is 
     (All-weaker (λ (e : Dependency). IsStatedOrPart s t old e) (λ (e : Dependency). IsStatedOrPart s (step rule t) old e)
     (λ e part. elim part [
       | inl stated ↦ inl stated
-      | inr w ↦ inr (w.0, elim w.1 [
-        | inl same ↦ inr (inl same)
-        | inr below ↦ inr (inr below)
-      ], w.2)
+      | inr w ↦ inr (
+        w.0,
+        elim w.1 [
+          | inl same ↦ inr (inl same)
+          | inr below ↦ inr (inr below)
+        ],
+        w.2,
+      )
     ]) (stated_by mid) before.parts)
     (λ k late low. elim (before.used k late low) [
       | inl is ↦ used_more mid (l ∷ []) k is
@@ -143,15 +146,15 @@ emitted_pair s rule t v old one mid all p q at d x y new before after direct pro
     let root : Proves s (pair rule t v) d = (x, y, proves_x, proves_y, gives) in
     let none = direct (pair rule t v) (inl refl) d root in
     let stated_mid : stated_by mid ≡ stated_by one ++ stated_by after.added =
-        ap stated_by after.whole ∙ map-append (λ (m : Line). m.stated) one after.added in
+    ap stated_by after.whole ∙ map-append (λ (m : Line). m.stated) one after.added in
     let first : slice_get (stated_by mid) p ≡ Some x =
-        rw stated_mid (stands_more (stated_by one) (stated_by after.added) p x (before.states x proves_x)) in
+    rw stated_mid (stands_more (stated_by one) (stated_by after.added) p x (before.states x proves_x)) in
     let second : slice_get (stated_by mid) q ≡ Some y = after.states y proves_y in
     let new_one : All (λ (m : Line). m.stated ≡ d → ⊥) one =
-        unstated one d (fresh_after s t old one d before.parts new (λ u inside other. none u (inl (elim inside [
-          | inl same ↦ inl same
-          | inr below ↦ inr below
-        ])) other)) in
+    unstated one d (fresh_after s t old one d before.parts new (λ u inside other. none u (inl (elim inside [
+      | inl same ↦ inl same
+      | inr below ↦ inr below
+    ])) other)) in
     let longer : length one ≤ length mid = omega (arith, ap length after.whole, length-append one after.added) in
     rw (all_is, at_is) (emitted_line s (pair rule t v) old mid l (before.added ++ after.added)
     (after.whole ∙ ap (λ (ls : List Line). ls ++ after.added) before.whole ∙ append_assoc old before.added after.added)
@@ -164,15 +167,23 @@ emitted_pair s rule t v old one mid all p q at d x y new before after direct pro
     (λ e c. elim (All-contains (λ (f : Dependency). IsStatedOrPart s v one f) (stated_by mid) e after.parts c) [
       | inl stated ↦ elim (All-contains (λ (f : Dependency). IsStatedOrPart s t old f) (stated_by one) e before.parts stated) [
         | inl stated_old ↦ inl stated_old
-        | inr w ↦ inr (w.0, elim w.1 [
-          | inl same ↦ inr (inl (inl same))
-          | inr below ↦ inr (inl (inr below))
-        ], w.2)
+        | inr w ↦ inr (
+          w.0,
+          elim w.1 [
+            | inl same ↦ inr (inl (inl same))
+            | inr below ↦ inr (inl (inr below))
+          ],
+          w.2,
+        )
       ]
-      | inr w ↦ inr (w.0, elim w.1 [
-        | inl same ↦ inr (inr (inl same))
-        | inr below ↦ inr (inr (inr below))
-      ], w.2)
+      | inr w ↦ inr (
+        w.0,
+        elim w.1 [
+          | inl same ↦ inr (inr (inl same))
+          | inr below ↦ inr (inr (inr below))
+        ],
+        w.2,
+      )
     ]))
     (λ k late low. elim (cases_lt k (length one)) [
       | inl less ↦ elim (before.used k late less) [
@@ -218,5 +229,5 @@ emitted_all s t at lines d emitted proves =
         | inr same ↦ absurd (omega (arith, same, number, low))
       ];
       once = emitted.written.once;
-      fits = emitted.few;
+      fits = omega (arith, emitted.few);
     }

@@ -131,7 +131,7 @@ pub chain_leaves_imply : (s : Theory) (x y : Attributes) (t : Tree) → IsFuncti
 chain_leaves_imply s x y t chain r legal =
     let last = reached_leaves s x y chain.steps chain.last chain.reached in
     let leaves : functional_leaves s t ≡ functional_leaves s chain.last.tree =
-        ap (functional_leaves s) chain.whole ∙ append-nil (functional_leaves s chain.last.tree) in
+    ap (functional_leaves s) chain.whole ∙ append-nil (functional_leaves s chain.last.tree) in
     fd_weaker_obeyed x chain.last.closed x y r (λ j m. m) chain.holds
     (last.obeyed r (subst (All (λ (d : Dependency). Obeys (width_of s) d r)) leaves legal.obeys))
 
@@ -140,7 +140,7 @@ pub chain_leaves_count : (s : Theory) (x y : Attributes) (t : Tree) → IsFuncti
 chain_leaves_count s x y t chain =
     let last = reached_leaves s x y chain.steps chain.last chain.reached in
     let leaves : functional_leaves s t ≡ functional_leaves s chain.last.tree =
-        ap (functional_leaves s) chain.whole ∙ append-nil (functional_leaves s chain.last.tree) in
+    ap (functional_leaves s) chain.whole ∙ append-nil (functional_leaves s chain.last.tree) in
     omega (arith, ap length leaves, last.count, last.size, ap nodes chain.whole)
 
 -- ---- thrifty derivations

@@ -1,5 +1,5 @@
 -- What a line more keeps of a derivation.
-use Rattle.std.proofs.Common.{◌≡◌, ◌⊎◌, ℕ, zero, suc, ◌+◌, ◌<◌, inl, inr, List, [], ◌∷◌, ◌++◌, length, get_or, map, refl, ap, sym, ◌∙◌, subst, arith, add-one, take, take_all, append-nil, append_assoc, length-append}
+use Rattle.std.proofs.Common.{◌≡◌, ◌⊎◌, ℕ, zero, suc, ◌+◌, ◌<◌, inl, inr, List, [], ◌∷◌, ◌++◌, length, get_or, map, true, false, refl, ap, sym, ◌∙◌, subst, arith, add-one, take, take_all, append-nil, append_assoc, length-append}
 use Rattle.std.specs.Prelude.{Some, slice_get, Contains, All, AllPairs, filter}
 use Rattle.std.proofs.lemmas.Bool.{cases_lt}
 use Rattle.std.proofs.lemmas.List.{map-append}
@@ -13,7 +13,7 @@ use Rattle.dep_model.specs.Theories.{Theory}
 use Rattle.short_derivations.specs.declared.inference.Inference.{Inference}
 use Rattle.short_derivations.specs.Emitted.{AreWritten}
 use Rattle.short_derivations.specs.Short.{Concludes}
-use Rattle.short_derivations.specs.Views.{line_of, lines_of}
+use Rattle.short_derivations.specs.Views.{why_of, line_of, lines_of}
 use Rattle.short_derivations.specs.Inferences.{Line, Why, stated_by, Gives, AreGiven, premises_of, IsUsed, EachIsUsed, NoneIsRepeated, is_given, givens_of}
 
 -- ---- what stands in a longer list
@@ -34,9 +34,11 @@ pub given_push : (s : Theory) (before : List Dependency) (ls : List Line) (l : L
     → Gives s (before ++ stated_by ls) l.why l.stated → AreGiven s before (ls ++ l ∷ [])
 given_push s before [] l given gives =
     (subst (λ (ds : List Dependency). Gives s ds l.why l.stated) (append-nil before) gives, tt)
-given_push s before (m ∷ ls) l given gives =
-    (given.0, given_push s (before ++ m.stated ∷ []) ls l given.1
-    (subst (λ (ds : List Dependency). Gives s ds l.why l.stated) (sym (append_assoc before (m.stated ∷ []) (stated_by ls))) gives))
+given_push s before (m ∷ ls) l given gives = (
+  given.0,
+  given_push s (before ++ m.stated ∷ []) ls l given.1
+      (subst (λ (ds : List Dependency). Gives s ds l.why l.stated) (sym (append_assoc before (m.stated ∷ []) (stated_by ls))) gives),
+)
 
 -- ---- each line is used, but for some
 abbrev pub UsedUnless : (ℕ → Type 0) → List Line → Type 0
@@ -118,8 +120,7 @@ lines_next items k d low = rw add-one (ap lines_of (take-suc items k d low) ∙ 
 pub ends_at : (items : List Inference) (k : ℕ) (d : Inference) (e : Dependency) → k + 1 ≡ length items → dependency_of (get_or items k d).stated ≡ e
     → Concludes (lines_of items) e
 ends_at items k d e last states =
-    let all : take (k + 1) items ≡ items = take_all (k + 1) items (omega (arith, last)) in
-    (
+    let all : take (k + 1) items ≡ items = take_all (k + 1) items (omega (arith, last)) in (
       lines_of (take k items),
       line_of (get_or items k d),
       ap lines_of (sym all) ∙ lines_next items k d (omega (arith, last)),
@@ -132,3 +133,15 @@ written_push s ls l written gives new = record {
   given = given_push s [] ls l written.given gives;
   once = once_push ls l written.once new;
 }
+
+pub givens_next_given : (items : List Inference) (k : ℕ) (d : Inference) → k < length items → is_given (why_of (get_or items k d).reason) ≡ true
+    → givens_of (lines_of (take (k + 1) items)) ≡ givens_of (lines_of (take k items)) ++ dependency_of (get_or items k d).stated ∷ []
+givens_next_given items k d low given =
+    ap givens_of (lines_next items k d low) ∙ givens_push (lines_of (take k items)) (line_of (get_or items k d))
+    ∙ ap (λ (ds : List Dependency). givens_of (lines_of (take k items)) ++ ds) (rw given refl)
+
+pub givens_next_other : (items : List Inference) (k : ℕ) (d : Inference) → k < length items → is_given (why_of (get_or items k d).reason) ≡ false
+    → givens_of (lines_of (take (k + 1) items)) ≡ givens_of (lines_of (take k items))
+givens_next_other items k d low other =
+    ap givens_of (lines_next items k d low) ∙ givens_push (lines_of (take k items)) (line_of (get_or items k d))
+    ∙ ap (λ (ds : List Dependency). givens_of (lines_of (take k items)) ++ ds) (rw other refl) ∙ append-nil (givens_of (lines_of (take k items)))

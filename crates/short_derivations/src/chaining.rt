@@ -107,7 +107,11 @@ fn begin(
         lhs,
         rhs: link.rhs.union(lhs),
     };
-    add_line(lines, lifted, Reason::Step(StepRule::Augmentation { by: lhs }, 0))
+    add_line(
+        lines,
+        lifted,
+        Reason::Step(StepRule::Augmentation { by: lhs }, 0),
+    )
 }
 
 // Adds a link to a chain.
@@ -139,16 +143,28 @@ fn extend(
     add_given(lines, link)?;
     if link.holds(closed) {
         let stated = Dep::Fd { lhs, rhs: link.rhs };
-        return add_line(lines, stated, Reason::Pair(PairRule::Transitivity, last, next));
+        return add_line(
+            lines,
+            stated,
+            Reason::Pair(PairRule::Transitivity, last, next),
+        );
     }
     let wide = link.rhs.union(closed);
     let lifted = Dep::Fd {
         lhs: closed,
         rhs: wide,
     };
-    add_line(lines, lifted, Reason::Step(StepRule::Augmentation { by: closed }, next))?;
+    add_line(
+        lines,
+        lifted,
+        Reason::Step(StepRule::Augmentation { by: closed }, next),
+    )?;
     let stated = Dep::Fd { lhs, rhs: wide };
-    add_line(lines, stated, Reason::Pair(PairRule::Transitivity, last, next + 1))
+    add_line(
+        lines,
+        stated,
+        Reason::Pair(PairRule::Transitivity, last, next + 1),
+    )
 }
 
 // Ends a chain that has reached the goal: what it leads to beside the goal is cut off.

@@ -5,7 +5,7 @@ ghost use Rattle.dep_model.specs.Dependencies.{Dependency};
 ghost use Rattle.dep_model.specs.Deps.{dependency_of};
 ghost use Rattle.derivation.specs.Derivs.{outcome_of};
 ghost use Rattle.short_derivations.specs.Emitted.{AreWritten};
-ghost use Rattle.short_derivations.specs.Inferences.{Gives, IsUsed, EachIsUsed, premises_of, givens_of, stated_by};
+ghost use Rattle.short_derivations.specs.Inferences.{Gives, IsUsed, EachIsUsed, premises_of, is_given, givens_of, stated_by};
 ghost use Rattle.short_derivations.specs.Links.{said_by};
 ghost use Rattle.short_derivations.specs.Short.{Concludes};
 ghost use Rattle.short_derivations.specs.Views.{why_of, lines_of};
@@ -100,7 +100,10 @@ pub fn ends_with(lines: &[Inference], goal: Dep) -> bool
     ensures used { IsTrue result → EachIsUsed (lines_of lines.now) }
 {
     let count = lines.len();
-    if count == 0 || !same_dep(lines[count - 1].stated, goal) {
+    if count == 0 {
+        return false;
+    }
+    if !same_dep(lines[count - 1].stated, goal) {
         return false;
     }
     each_is_used(lines)
@@ -149,7 +152,7 @@ pub fn count_given(lines: &[Inference], links: &[Link]) -> Option<usize>
 {
     let mut count = 0;
     for line in lines {
-        if let Reason::Leaf(LeafRule::Given(_)) = line.reason {
+        if is_given(line.reason) {
             if !is_said(links, line.stated) {
                 return None;
             }
@@ -157,6 +160,16 @@ pub fn count_given(lines: &[Inference], links: &[Link]) -> Option<usize>
         }
     }
     Some(count)
+}
+
+// Whether a line with this reason stands as given.
+fn is_given(reason: Reason) -> bool
+    ensures given { result ≡ is_given (why_of reason) }
+{
+    match reason {
+        Reason::Leaf(LeafRule::Given(_)) => true,
+        _ => false,
+    }
 }
 
 // Whether a link says a dependency.

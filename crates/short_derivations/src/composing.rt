@@ -116,7 +116,11 @@ fn functional(
         (nodes (tree_of certificate.now)) (lines_of lines.items)) }
 {
     if rhs.is_subset(lhs) {
-        return single(alloc, Dep::Fd { lhs, rhs }, LeafRule::Reflexivity { lhs, rhs });
+        return single(
+            alloc,
+            Dep::Fd { lhs, rhs },
+            LeafRule::Reflexivity { lhs, rhs },
+        );
     }
     if let Some(link) = link_with(theory, lhs, rhs) {
         return cut(alloc, link, lhs, rhs);
@@ -153,9 +157,10 @@ fn is_part_of(dep: Dep, lhs: AttrSet, rhs: AttrSet) -> bool
     ensures part { IsTrue result ↔ IsCutOf (attributes lhs) (attributes rhs) (dependency_of dep) }
 {
     match dep {
-        Dep::Fd { lhs: left, rhs: right } => {
-            left.is_subset(lhs) && lhs.is_subset(left) && rhs.is_subset(right)
-        }
+        Dep::Fd {
+            lhs: left,
+            rhs: right,
+        } => { left.is_subset(lhs) && lhs.is_subset(left) && rhs.is_subset(right) }
         Dep::Mvd { .. } => false,
     }
 }
@@ -171,7 +176,11 @@ fn cut(alloc: Global, link: Link, lhs: AttrSet, rhs: AttrSet) -> Result<Vec<Infe
         lhs: link.lhs,
         rhs: link.rhs,
     };
-    add_line(&mut lines, given, Reason::Leaf(LeafRule::Given(link.position)))?;
+    add_line(
+        &mut lines,
+        given,
+        Reason::Leaf(LeafRule::Given(link.position)),
+    )?;
     add_line(&mut lines, Dep::Fd { lhs, rhs }, Reason::Decomposition(0))?;
     Ok(lines)
 }
@@ -193,7 +202,11 @@ fn multivalued(
         (nodes (tree_of certificate.now)) (lines_of lines.items)) }
 {
     if rhs.is_subset(lhs) {
-        return single(alloc, Dep::Mvd { lhs, rhs }, LeafRule::MReflexivity { lhs, rhs });
+        return single(
+            alloc,
+            Dep::Mvd { lhs, rhs },
+            LeafRule::MReflexivity { lhs, rhs },
+        );
     }
     emitted(alloc, theory, certificate, Dep::Mvd { lhs, rhs })
 }

@@ -75,11 +75,7 @@ fn concluded(theory: &Theory, deriv: &Deriv) -> Dep
 }
 
 // Adds a line, and gives its number.
-fn emit_line(
-    lines: &mut Vec<Inference>,
-    stated: Dep,
-    reason: Reason,
-) -> Result<u32, OutOfMemory>
+fn emit_line(lines: &mut Vec<Inference>, stated: Dep, reason: Reason) -> Result<u32, OutOfMemory>
     requires fits_u32 { length lines.old.items < 2 ^ 32 }
     ensures added { IfOk result (λ at. (at ≡ length lines.old.items)
         × (lines_of lines.new.items ≡ lines_of lines.old.items

@@ -8,11 +8,7 @@ use crate::{Inference, Reason};
 use dep_model::{Dep, OutOfMemory};
 
 // Adds a line.
-pub fn add_line(
-    lines: &mut Vec<Inference>,
-    stated: Dep,
-    reason: Reason,
-) -> Result<(), OutOfMemory>
+pub fn add_line(lines: &mut Vec<Inference>, stated: Dep, reason: Reason) -> Result<(), OutOfMemory>
     ensures added { OnOk result (lines_of lines.new.items ≡ lines_of lines.old.items
         ++ record { stated = dependency_of stated; why = why_of reason } ∷ []) }
 {

@@ -56,7 +56,12 @@ fn substitute(
                 return Ok(());
             }
             let next = last + 1;
-            try_line(theory, lines, link.said(), Reason::Leaf(LeafRule::Given(link.position)))?;
+            try_line(
+                theory,
+                lines,
+                link.said(),
+                Reason::Leaf(LeafRule::Given(link.position)),
+            )?;
             let mut from = next;
             let mut part = link.rhs;
             if !part.is_subset(left) {
@@ -89,7 +94,12 @@ fn start(
     requires written { AreWritten theory.now (lines_of lines.old.items) }
     ensures written { OnOk result (AreWritten theory.now (lines_of lines.new.items)) }
 {
-    try_line(theory, lines, link.said(), Reason::Leaf(LeafRule::Given(link.position)))?;
+    try_line(
+        theory,
+        lines,
+        link.said(),
+        Reason::Leaf(LeafRule::Given(link.position)),
+    )?;
     let by = rhs.difference(link.rhs).union(more);
     if by.is_empty() {
         return Ok(());
@@ -98,7 +108,12 @@ fn start(
         lhs: link.lhs.union(by),
         rhs: link.rhs.union(by),
     };
-    try_line(theory, lines, stated, Reason::Step(StepRule::Augmentation { by }, 0))
+    try_line(
+        theory,
+        lines,
+        stated,
+        Reason::Step(StepRule::Augmentation { by }, 0),
+    )
 }
 
 // Brings the last line to the goal: the left side is widened, and the right side cut.
@@ -123,7 +138,12 @@ fn narrow(
     }
     if let Some((last, _, right)) = last_line(lines) {
         if right != rhs {
-            try_line(theory, lines, Dep::Fd { lhs, rhs }, Reason::Decomposition(last))?;
+            try_line(
+                theory,
+                lines,
+                Dep::Fd { lhs, rhs },
+                Reason::Decomposition(last),
+            )?;
         }
     }
     Ok(())

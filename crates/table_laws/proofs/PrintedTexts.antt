@@ -118,12 +118,16 @@ row_parted name [] more = by (is_blank default_writer (name ∷ [])) refl
         → IsPartedAt (field_text default_writer name) (row_text default_writer (name ∷ []) ++ more)
     by true blank = record { byte = 34; rest = 34 ∷ 10 ∷ more; plain = (refl, refl, refl); all = ended_by true blank }
     by false full = record { byte = 10; rest = more; plain = (refl, refl, refl); all = ended_by false full }
-row_parted name (value ∷ values) more = record {
-  byte = 44;
-  rest = _;
-  plain = (refl, refl, refl);
-  all = append_assoc _ _ more ∙ append_assoc (field_text default_writer name) _ _;
-}
+row_parted name (value ∷ values) more =
+    let field = field_text default_writer name in
+    let others = fields_text default_writer (value ∷ values) in
+    let end : List ℕ = (if is_blank default_writer (name ∷ value ∷ values) then 34 ∷ 34 ∷ [] else []) ++ 10 ∷ [] in
+    record {
+      byte = 44;
+      rest = (field_text default_writer value ++ fields_text default_writer values) ++ (end ++ more);
+      plain = (refl, refl, refl);
+      all = append_assoc (field ++ others) end more ∙ append_assoc field others (end ++ more);
+    }
 
 -- a value that needs no quotes is its own text
 text_unmarked : (name : List ℕ) (values : List (List ℕ)) (more : List ℕ) → IsUnmarked name

@@ -16,12 +16,12 @@ use Rattle.desk_implication.proofs.explaining.explanation_response.Goals as goal
 pub derivation_response-requires-clause-certifies : goal.derivation_response-requires-clause-certifies
 derivation_response-requires-clause-certifies c =
     let answer = rw (c.in-Yes.is, c.theory.ensures.theory) at c.in_ok-certificate.ensures.answer in
-    record {
+    rw c.deref.ensures (record {
       proves = answer.0;
       chain = answer.1;
       direct = rw (c.in-Yes.is, c.theory.ensures.theory) at c.in_ok-certificate.ensures.direct;
       short = rw (c.in-Yes.is, c.theory.ensures.theory) at c.in_ok-certificate.ensures.short;
-    }
+    })
 
 pub returns-in-Yes : goal.returns-in-Yes
 returns-in-Yes c =

@@ -6,5 +6,5 @@ use Rattle.short_derivations.proofs.checking.ends_with.Goals as goal
 
 pub returns-clause-concludes : goal.returns-clause-concludes
 returns-clause-concludes c used =
-    ends_at c.args.lines.now (c.len-count.result - 1) _ (dependency_of c.args.goal) (omega (arith, c.len-count.ensures))
+    ends_at c.args.lines.now (length c.args.lines.now - 1) _ (dependency_of c.args.goal) (omega arith)
     (c.same_dep.ensures.same.0 c.if-not-same_dep.false)

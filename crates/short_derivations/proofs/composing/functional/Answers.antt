@@ -93,7 +93,7 @@ returns c =
     let most = nodes (tree_of c.args.certificate.now) in
     let says : SaysWhetherFollows (deps_of s) x y c.follows.result = rw c.deps.ensures.deps at c.follows.ensures.implied in
     let mixed : FollowsFunctionally s (fd x y) → ⊥ =
-        λ follows. false≢true (sym c.if-follows.false ∙ (says.over (width_of s) s.valid.deps_within c.requires.lhs c.requires.rhs).1 follows) in
+    λ follows. false≢true (sym c.if-follows.false ∙ (says.over (width_of s) s.valid.deps_within c.requires.lhs c.requires.rhs).1 follows) in
     record {
       short = IfOk-weaker c.emitted.result
           (λ lines. IsEmission s (fd x y) most (lines_of lines.items))

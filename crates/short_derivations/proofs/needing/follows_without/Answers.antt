@@ -15,8 +15,8 @@ is_implied_by-requires-clause-deps c =
     let kept = deps_of_links c.args.kept.now in
     let rest = deps_of_links c.args.rest.now in
     let items : c.deref.result.now ≡ kept ++ rest =
-        c.deref.ensures.value ∙ c.in_ok-add_link_deps-2.ensures.added
-        ∙ ap (λ (ds : List Dep). ds ++ rest) (c.in_ok-add_link_deps.ensures.added ∙ ap (λ (ds : List Dep). ds ++ kept) c.new-deps.ensures.items) in
+    c.deref.ensures.value ∙ c.in_ok-add_link_deps-2.ensures.added
+    ∙ ap (λ (ds : List Dep). ds ++ rest) (c.in_ok-add_link_deps.ensures.added ∙ ap (λ (ds : List Dep). ds ++ kept) c.new-deps.ensures.items) in
     rw (items, c.width.ensures.count) (All-append (IsDepWithin (universe_of c.args.theory.now)) kept rest
     (links_within c.args.theory.now c.args.kept.now c.requires.kept) (links_within c.args.theory.now c.args.rest.now c.requires.rest))
 
@@ -25,8 +25,8 @@ returns c =
     let kept = deps_of_links c.args.kept.now in
     let rest = deps_of_links c.args.rest.now in
     let items : c.deref.result.now ≡ kept ++ rest =
-        c.deref.ensures.value ∙ c.in_ok-add_link_deps-2.ensures.added
-        ∙ ap (λ (ds : List Dep). ds ++ rest) (c.in_ok-add_link_deps.ensures.added ∙ ap (λ (ds : List Dep). ds ++ kept) c.new-deps.ensures.items) in
+    c.deref.ensures.value ∙ c.in_ok-add_link_deps-2.ensures.added
+    ∙ ap (λ (ds : List Dep). ds ++ rest) (c.in_ok-add_link_deps.ensures.added ∙ ap (λ (ds : List Dep). ds ++ kept) c.new-deps.ensures.items) in
     let same : dependencies_of c.deref.result.now ≡ said_by (c.args.kept.now ++ c.args.rest.now) =
-        ap dependencies_of (items ∙ sym (map-append dep_of_link c.args.kept.now c.args.rest.now)) in
+    ap dependencies_of (items ∙ sym (map-append dep_of_link c.args.kept.now c.args.rest.now)) in
     record { implied = rw (c.width.ensures.count, same) at c.is_implied_by.ensures.implied }

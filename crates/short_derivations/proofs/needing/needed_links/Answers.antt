@@ -1,6 +1,6 @@
 -- What is left to prove of `needed_links`: that a round of its loop keeps the invariant, and that all links
 -- that are kept are needed.
-use Rattle.std.proofs.Common.{◌≡◌, ◌<◌, ◌+◌, ◌∙◌, ap, sym, subst, arith, add-one, List, [], ◌∷◌, ◌++◌, length, get_or, drop, drop-cons, append-nil, length-append}
+use Rattle.std.proofs.Common.{◌≡◌, ◌<◌, ◌+◌, ◌-◌, ◌∙◌, ap, sym, subst, arith, add-one, List, [], ◌∷◌, ◌++◌, length, get_or, take, take_all, drop, drop-cons, length-drop, append-nil, length-append}
 use Rattle.std.specs.Prelude.{All}
 use Rattle.std.proofs.lemmas.Bool.{false≢true}
 use Rattle.std.proofs.lemmas.List.{drop_all}
@@ -28,9 +28,10 @@ loop-k-preserved c =
     let before = c.loop-k.invariant in
     let low : k < length links = c.loop-k-test.true in
     let cut : drop k links ≡ l ∷ rest = rw add-one (drop-cons links k first low) in
-    let tested = rw c.deref.ensures.value at c.in_ok-follows_without.ensures.implied in
+    let sliced : take (length links - (k + 1)) rest ≡ rest = take_all (length links - (k + 1)) rest (omega (arith, length-drop (k + 1) links)) in
+    let tested = rw (c.deref.ensures.value, sliced) at c.in_ok-follows_without.ensures.implied in
     let needed : All (IsNeeded n goal_dep (said_by (kept ++ l ∷ rest))) (said_by kept) =
-        subst (λ (ds : List Link). All (IsNeeded n goal_dep (said_by (kept ++ ds))) (said_by kept)) cut before.needed in
+    subst (λ (ds : List Link). All (IsNeeded n goal_dep (said_by (kept ++ ds))) (said_by kept)) cut before.needed in
     elim c.if-not-branch.branch [
       | then-not-branch+in_ok-push w ↦
           let items : c.if-not-branch.kept.items ≡ kept ++ l ∷ [] = ap (λ v. v.items) w.kept-is ∙ w.in_ok-push.ensures.items in
@@ -56,5 +57,5 @@ returns-clause-needed c =
     let goal_dep = dependency_of c.args.goal in
     let kept = c.loop-k.kept.items in
     let none : kept ++ drop c.loop-k.k c.args.links.now ≡ kept =
-        ap (λ (ds : List Link). kept ++ ds) (drop_all c.loop-k.k c.args.links.now c.loop-k-test.false) ∙ append-nil kept in
+    ap (λ (ds : List Link). kept ++ ds) (drop_all c.loop-k.k c.args.links.now c.loop-k-test.false) ∙ append-nil kept in
     subst (λ (ds : List Link). All (IsNeeded n goal_dep (said_by ds)) (said_by kept)) none c.loop-k.invariant.needed
