@@ -4,6 +4,7 @@
 # which one is typed there, and FILE, FOLDER, NUMBER and TEXT for what is no fixed word; `FILE..` may be typed again.
 _desk_forms='
 implies FILE TEXT
+explain implies FILE TEXT
 check proof FILE FILE TEXT
 check derivation FILE FILE TEXT
 check rows FILE FILE
@@ -14,7 +15,9 @@ check form 2nf|3nf|bcnf|4nf FILE FILE
 check keeps FILE FILE
 check same FILE FILE
 check cover FILE FILE
+check cover canonical FILE FILE
 cover FILE
+cover canonical FILE
 basis FILE TEXT
 closure FILE TEXT
 project FILE TEXT

@@ -302,8 +302,38 @@ def f_schema(m):
     return ["cover", "s"] if m.r.random() < .5 else ["implies", "s", m.goal(s[0])[1]], {"s": m.mutated(m.schema_text(s), PIECES)}
 
 
-def certificate(m, schema, rules=model.RULES, often=False):
-    """A random certificate, or where a line may be used often a derivation: many valid steps, some broken ones."""
+def planted(m, schema, nodes):
+    """One fault in the lines of a derivation; sometimes it is none."""
+    r = m.r
+    names, _, deps = schema
+    k = r.randrange(len(nodes))
+    (kind, x, y), rule, premises, args = nodes[k]
+    what = r.random()
+    if what < .1:
+        kind = MVD if kind == FD else FD
+    elif what < .25:
+        y ^= m.some(len(names), 2, 1)
+    elif what < .35:
+        x ^= m.some(len(names), 2, 1)
+    elif what < .55:
+        shape = model.FURTHER_RULES[rule]
+        rule = r.choice([other for other in model.FURTHER_RULES if model.FURTHER_RULES[other] == shape])
+    elif what < .75 and premises and k:
+        premises = [r.randrange(k) if r.random() < .6 else p for p in premises]
+    elif what < .8:
+        premises = premises[::-1]
+    elif what < .9 and rule == b"given":
+        args = [r.choice((0, len(deps), len(deps) + 1, 999999999, r.randint(1, len(deps) + 1)))]
+    elif what < .9 and args:
+        args = [side ^ m.some(len(names), 2, 0) for side in args]
+    elif what < .92 and premises:
+        premises = [r.choice((-1, k, k + 1, *premises)) for _ in premises]
+    nodes[k] = ((kind, x, y), rule, premises, args)
+
+
+def certificate(m, schema, rules=model.RULES, often=False, faults=0):
+    """A random certificate, or where a line may be used often a derivation: many valid steps, some broken ones, and so many
+    faults that are planted afterwards."""
     r = m.r
     names, columns, deps = schema
     s = model.Schema([n.encode() for n in names], columns, deps, list(range(len(deps))))
@@ -347,17 +377,52 @@ def certificate(m, schema, rules=model.RULES, often=False):
             number = {k: i for i, k in enumerate(order)}
             nodes = [(nodes[k][0], nodes[k][1], [number[p] for p in nodes[k][2]], nodes[k][3]) for k in order]
             break
+    for _ in range(faults):
+        planted(m, schema, nodes)
+    number = lambda k: ("0" if often and r.random() < .03 else "") + str(k)
     out = "yes\n" if r.random() < .3 else ""
     for i, (stated, rule, premises, args) in enumerate(nodes, 1):
-        text = [rule.decode()] + [str(p + 1) for p in premises]
+        text = [rule.decode()] + [number(p + 1) for p in premises]
         if rule == b"given":
-            text.append(str(args[0]))
+            text.append(number(args[0]))
         elif rule == b"augmentation":
             text += ["with", m.side(names, args[0])]
         elif rule == b"maugmentation":
             text += ["with", m.side(names, args[0]), ":", m.side(names, args[1])]
         out += f"{i}: {m.dep(names, stated)} : {' '.join(text)}\n"
     return nodes[-1][0], out.encode()
+
+
+def implied_goal(m, schema):
+    """A goal that is mostly implied: one that is given, a part of one, or what a set determines or multidetermines."""
+    r = m.r
+    names, columns, deps = schema
+    n = len(names)
+    s = model.Schema([name.encode() for name in names], columns, deps, list(range(len(deps))))
+    what = r.random()
+    if deps and what < .15:
+        return r.choice(deps)
+    if deps and what < .3:
+        kind, x, y = r.choice(deps)
+        return FD, x, y & r.randrange(1 << n)
+    x = m.some(n, 3, 0 if r.random() < .1 else 1)
+    if deps and r.random() < .6:
+        x = r.choice(deps)[1] | m.some(n, 2)
+    closed, blocks = model.basis(s, x)
+    if r.random() < .3:
+        some = sum_or(block for block in blocks if r.random() < .5)
+        return MVD, x, some | (closed & r.randrange(1 << n))
+    return FD, x, closed if r.random() < .3 else closed & r.randrange(1 << n)
+
+
+def f_explain_implies(m):
+    r = m.r
+    low, high, count = r.choice(((1, 5, None), (2, 7, None), (3, 6, r.randint(2, 6)), (6, 9, r.randint(6, 12))))
+    s = m.schema(low, high, count, mvd=r.choice((0, 0, 0, .2, .5, 1)))
+    goal = m.dep(s[0], implied_goal(m, s)) if r.random() < .85 else m.goal(s[0])[1]
+    if r.random() < .03:
+        goal = os.fsdecode(m.mutated(goal.encode(), [p for p in PIECES if b"\0" not in p and b"\xff" not in p]))
+    return ["explain", "implies", "s", goal], {"s": m.schema_text(s)}
 
 
 def f_proof(m):
@@ -371,8 +436,9 @@ def f_proof(m):
 
 def f_derivation(m):
     s = m.schema(1, 5)
-    d, text = certificate(m, s, model.FURTHER_RULES, True) if m.r.random() < .9 else certificate(m, s)
-    if m.r.random() < .3:
+    faults = m.r.choice((0, 1, 1, 2, 4))
+    d, text = certificate(m, s, model.FURTHER_RULES, True, faults) if m.r.random() < .9 else certificate(m, s)
+    if m.r.random() < .15:
         text = m.mutated(text, PIECES + [b" union 1 2", b" difference 1 2", b" decomposition 1", b" pseudotransitivity "])
     goal = m.dep(s[0], d) if m.r.random() < .7 else m.goal(s[0])[1]
     return ["check", "derivation", "s", "d", goal], {"s": m.schema_text(s), "d": text}
@@ -385,6 +451,11 @@ def of_a_schema(m, command):
 def f_cover(m):
     s = m.schema(1, 7, deps=m.r.randint(0, 12))
     return ["cover", "s"], {"s": m.schema_text(s)}
+
+
+def f_cover_canonical(m):
+    words, files = f_cover(m)
+    return ["cover", "canonical", *words[1:]], files
 
 
 def f_explain_cover(m):
@@ -890,6 +961,35 @@ def f_check_cover(m):
     return ["check", "cover", "s", "o"], files
 
 
+def f_check_cover_canonical(m):
+    """A schema beside a canonical cover of it, in which lines may be parted, put together, widened or doubled."""
+    r = m.r
+    words, files = f_check_cover(m)
+    if r.random() < .8:
+        s = m.schema(1, 5, deps=m.r.randint(0, 8), mvd=r.choice((0, 0, .3)))
+        text = m.schema_text(s)
+        read = model.read_schema(text, b"s")
+        deps = model.canonical_cover(read)
+        for _ in range(r.choice((0, 0, 1, 1, 2)) if deps else 0):
+            k = r.randrange(len(deps))
+            kind, x, y = deps[k]
+            what = r.random()
+            if what < .3 and y & (y - 1):
+                # (its right side in two lines, of which they may have a part in common)
+                part = y & r.randrange(1 << read.n)
+                deps[k:k + 1] = [(kind, x, part), (kind, x, y & ~part | y & r.randrange(1 << read.n))]
+            elif what < .5 and kind == FD:
+                deps[k] = (FD, x, model.closed(read, x) & (y | r.randrange(1 << read.n)))
+            elif what < .7 and kind == FD:
+                deps[k] = (FD, x | m.some(read.n, 1, 1), y)
+            elif what < .8:
+                deps.insert(r.randint(0, len(deps)), (kind, x, 0))
+            else:
+                deps.insert(r.randint(0, len(deps)), deps[k])
+        files = {"s": text, "o": read.head() + b"".join(read.dep(d) + b"\n" for d in deps)}
+    return ["check", "cover", "canonical", "s", "o"], files
+
+
 TABLES = ["t", "orders", "public.addresses", "a.b.c", "a.b.c.d", "joined", "main.Joined", "x.T12", "t1x", "joined.t", "_x", "1x", "a..b",
           "", ".", "a b", 'a"b', "a;b", "t_1", "T", "x" * 63, "x" * 64, "é", "t0", "a.t", "select",
           '"a b"', 'main."two words"', '"a.b".c', '"a""b"', '"t0"', 'x."Joined"', '"joined".t', '"a"b', '"a', '""', '"é"."1".x', '"a"."b"."c"."d"',
@@ -1016,14 +1116,18 @@ def f_check_many_columns(m):
 
 
 ALL_WORDS = ["implies", "keys", "cover", "synthesize", "fewest", "split", "bcnf", "4nf", "3nf", "2nf", "wide-bcnf", "ddl", "plan", "check", "proof", "join", "form",
-             "report", "rows", "same", "keeps", "migrate", "sample", "exhibit", "discover", "import", "csv", "sqlite", "postgres", "rejoin", "basis", "closure", "project", "key", "explain", "sql", "draw", "measure", "offences", "kept", "into", "help", "--help", "-h", "--version",
+             "report", "rows", "same", "keeps", "migrate", "sample", "exhibit", "discover", "import", "csv", "sqlite", "postgres", "rejoin", "basis", "closure", "project", "key", "explain", "sql", "draw", "measure", "offences", "kept", "into", "help", "--help", "-h", "--version", "canonical", "derivation",
              "s", "p", "r", "A -> B", "1", "missing", "", "Keys", "table", "references", "A"]
 ALL_WORDS += [command for command in model.OF_A_SCHEMA if command not in ALL_WORDS]
 
 
 def f_words(m):
     words = [m.r.choice(ALL_WORDS) for _ in range(m.r.randint(0, 5))]
-    return words, {"s": b"attributes A B\nA -> B\n", "p": b"scheme A B\n", "r": b"A,B\n1,2\n"}
+    files = {"s": b"attributes A B\nA -> B\n", "p": b"scheme A B\n", "r": b"A,B\n1,2\n"}
+    if m.r.random() < .2:
+        # a schema that is named like a word of a form
+        files[m.r.choice(("canonical", "fewest", "implies", "plan"))] = files["s"]
+    return words, files
 
 
 # A command of a schema has the family of all of them, unless it has one of its own.
@@ -1048,6 +1152,21 @@ def check_certificate(words, files, text):
     if model.print_nodes(s, nodes) != text[4:]:
         return "certificate is not canonical"
     return None
+
+
+def check_explanation(program, words, files, folder, text):
+    """What is wrong with the derivation that explains why a goal is implied, or None."""
+    if not text.startswith(b"yes\n"):
+        return "does not begin with yes"
+    s = model.read_schema(files[words[2]], b"s")
+    goal = model.read_goal(s, os.fsencode(words[3]))
+    certificate = subprocess.run([program, *words[1:]], cwd=folder, stdin=subprocess.DEVNULL, capture_output=True, timeout=120)
+    most = certificate.stdout.count(b"\n") - 1
+    try:
+        wrong = [f"the derivation {it}" for it in model.explanation_faults(s, goal, text[4:], most)]
+    except model.Refused as r:
+        wrong = [f"derivation refused: {r.text!r}"]
+    return f"{'; '.join(wrong)}: {text[:600]!r}" if wrong else None
 
 
 def difference_of_page(program, words, files, folder, text, want):
@@ -1084,7 +1203,9 @@ def difference(program, words, files):
         wrote = {os.path.relpath(path, folder): path.read_bytes() for path in pathlib.Path(folder).rglob("*") if path.is_file()}
         want = model.run(words, files)
         page = difference_of_page(program, words, files, folder, done.stdout, want.text) if want.free == "page" else None
-    wrong = [page] if page else []
+        is_explained = want.free == "explanation" and done.returncode == 0
+        explanation = check_explanation(program, words, files, folder, done.stdout) if is_explained else None
+    wrong = [it for it in (page, explanation) if it]
     if done.returncode != want.status:
         wrong.append(f"status {done.returncode}, the model has {want.status}")
     if want.free == "certificate":

@@ -17,8 +17,10 @@ use Rattle.dep_model.specs.Implication.{Implies}
 use Rattle.dep_model.proofs.DistinctLemmas.{filter-keeps}
 use Rattle.min_cover.specs.Covers.{HaveSameLegal, IsSingle, IsMinimalCover, IsWholeCover}
 use Rattle.cover_accounts.specs.declared.diagnostic.CoverDiagnostic.{CoverDiagnostic}
-use Rattle.cover_accounts.specs.declared.diagnostic.CoverDiagnostic.TheVariants.{SeveralOnRight, NotNeeded, Follows}
-use Rattle.cover_accounts.specs.CoverDiagnostics.{FollowsFrom, HasSeveralOnRight, IsNotNeeded, IsCoverDiagnostic}
+use Rattle.cover_accounts.specs.declared.diagnostic.CoverDiagnostic.TheVariants.{SeveralOnRight, SameLeft, NotNeededOnLeft, NotNeededOnRight, Follows}
+use Rattle.cover_accounts.specs.declared.diagnostic.CoverForm.TheVariants.{Minimal}
+use Rattle.cover_accounts.proofs.GatheringLemmas.{several_not_same}
+use Rattle.cover_accounts.specs.CoverDiagnostics.{FollowsFrom, HasSeveralOnRight, IsNotNeededOnLeft, IsCoverDiagnostic}
 
 -- ---- a list without a member
 pub remove_map : (ds : List Dep) (k : ℕ) → dependencies_of (remove ds k) ≡ remove (dependencies_of ds) k
@@ -31,14 +33,14 @@ pub remove_all : (P : Dep → Type 0) (ds : List Dep) (k : ℕ) → All P ds →
 remove_all P ds k all = All-append P (take k ds) (drop (suc k) ds) (All-take P k ds all) (All-drop P (suc k) ds all)
 
 -- the list is what stands before the member, the member, and what stands after it
-parted : (ds : List Dependency) (k : ℕ) (d : Dependency) → slice_get ds k ≡ Some d → ds ≡ take k ds ++ d ∷ drop (suc k) ds
+pub parted : (ds : List Dependency) (k : ℕ) (d : Dependency) → slice_get ds k ≡ Some d → ds ≡ take k ds ++ d ∷ drop (suc k) ds
 parted ds k d read =
     sym (take-append-drop k ds)
     ∙ ap (λ (es : List Dependency). take k ds ++ es) (drop-cons ds k d (slice_get_within ds k d read))
     ∙ ap (λ (e : Dependency). take k ds ++ e ∷ drop (suc k) ds) (get_or_from_slice_get ds k d d read)
 
 -- ---- a minimal cover
-contained : (ds : List Dependency) (k : ℕ) (d : Dependency) → slice_get ds k ≡ Some d → Contains ds d
+pub contained : (ds : List Dependency) (k : ℕ) (d : Dependency) → slice_get ds k ≡ Some d → Contains ds d
 contained ds k d read =
     subst (λ (e : Dependency). Contains ds e) (get_or_from_slice_get ds k d d read) (Contains-get_or ds k d (slice_get_within ds k d read))
 
@@ -65,7 +67,7 @@ no_several n ds whole (mvd x y) minimal given many = absurd many
 no_several n ds whole (fd x y) minimal given many =
     single_right (fd x y) (All-contains IsSingle (functional_part whole) (fd x y) minimal.single (filter-keeps is_fd whole (fd x y) given refl)) many
 
-all_needed : (n : ℕ) (ds whole : List Dependency) (d : Dependency) (a : ℕ) → IsMinimalCover n ds (functional_part whole) → Contains whole d → IsNotNeeded n whole d a → ⊥
+all_needed : (n : ℕ) (ds whole : List Dependency) (d : Dependency) (a : ℕ) → IsMinimalCover n ds (functional_part whole) → Contains whole d → IsNotNeededOnLeft n whole d a → ⊥
 all_needed n ds whole (mvd x y) a minimal given is = absurd is
 all_needed n ds whole (fd x y) a minimal given is =
     minimal.short (fd x y) (filter-keeps is_fd whole (fd x y) given refl) a is.0
@@ -83,7 +85,9 @@ none_follows n ds whole k (fd x y) minimal cover read follows =
 none_follows n ds whole k (mvd x y) minimal cover read follows =
     cover.needed (take k whole) (drop (suc k) whole) (mvd x y) (parted whole k (mvd x y) read) refl follows
 
-pub no_diagnostic : (n : ℕ) (ds whole : List Dependency) (one : CoverDiagnostic) → IsMinimalCover n ds (functional_part whole) → IsWholeCover n ds whole → IsCoverDiagnostic n whole one → ⊥
-no_diagnostic n ds whole (SeveralOnRight k) minimal cover is = no_several n ds whole is.0 minimal (contained whole k is.0 is.1) is.2
-no_diagnostic n ds whole (NotNeeded k a) minimal cover is = all_needed n ds whole is.0 a minimal (contained whole k is.0 is.1) is.2
-no_diagnostic n ds whole (Follows k) minimal cover is = none_follows n ds whole k is.0 minimal cover is.1 is.2
+pub no_diagnostic : (n : ℕ) (ds whole : List Dependency) (one : CoverDiagnostic) → IsMinimalCover n ds (functional_part whole) → IsWholeCover n ds whole → IsCoverDiagnostic Minimal n whole one → ⊥
+no_diagnostic n ds whole (SeveralOnRight k) minimal cover is = no_several n ds whole is.1.0 minimal (contained whole k is.1.0 is.1.1) is.1.2
+no_diagnostic n ds whole (SameLeft k j) minimal cover is = several_not_same Minimal refl is.0
+no_diagnostic n ds whole (NotNeededOnLeft k a) minimal cover is = all_needed n ds whole is.0 a minimal (contained whole k is.0 is.1) is.2
+no_diagnostic n ds whole (NotNeededOnRight k a) minimal cover is = several_not_same Minimal refl is.0
+no_diagnostic n ds whole (Follows k) minimal cover is = none_follows n ds whole k is.0 minimal cover is.1 is.3

@@ -7,11 +7,12 @@ ghost use Rattle.dep_model.specs.Dependencies.{Dependency, functional_part, IsWi
 ghost use Rattle.min_cover.specs.Covers.{IsMinimalCover, IsWholeCover};
 ghost use Rattle.cover_accounts.specs.CoverDiagnostics.{IsCoverDiagnostic, AreCoverDiagnostics};
 ghost use Rattle.cover_accounts.specs.declared.diagnostic.CoverDiagnostic.{CoverDiagnostic};
+ghost use Rattle.cover_accounts.specs.declared.diagnostic.CoverForm.TheVariants.{Minimal};
 
-/// A cover of `min_cover` has no diagnostic: its functional part is a minimal cover, and none of its
-/// multivalued dependencies follows from the rest.
+/// A cover of `min_cover` has no diagnostic of a minimal cover: its functional part is a minimal cover, and
+/// none of its multivalued dependencies follows from the rest.
 pub fn covers_have_no_diagnostic()
     ensures law { (n : ℕ) (ds whole : List Dependency) (one : CoverDiagnostic)
         → IsMinimalCover n ds (functional_part whole) → IsWholeCover n ds whole
-        → IsCoverDiagnostic n whole one → ⊥ }
+        → IsCoverDiagnostic Minimal n whole one → ⊥ }
 {}

@@ -1,10 +1,12 @@
 pub mod AddedLines
 pub mod Certificates
+pub mod DerivedLines
 pub mod LineLaws
 pub mod LineRefusals
 pub mod OutcomeLemmas
 pub mod ReadLines
 pub mod RuleWords
+pub mod SchemaLines
 pub mod StandIns
 pub mod TextLaws
 pub mod WalkedLines

@@ -1,5 +1,6 @@
--- What a text derives: for `read_derivation` and `check derivation`.
-use Rattle.std.specs.Prelude.{◌≡◌, ◌≤◌, ℕ, ◌+◌, ◌-◌, ◌==◌, if◌then◌else◌, List, [], ◌∷◌, ◌++◌, length, slice_get, Option, None, Some, Result, Ok, Err}
+-- What the rule of a line gives, and what a text derives: for what is wrong with a line, and for
+-- `check derivation`.
+use Rattle.std.specs.Prelude.{◌≡◌, ◌≤◌, ℕ, ◌+◌, ◌-◌, ◌==◌, if◌then◌else◌, List, [], ◌∷◌, ◌++◌, length, map, slice_get, Option, None, Some, Result, Ok, Err}
 use Rattle.schema_model.specs.Schemas.{Schema, theory_in}
 use Rattle.dep_model.specs.Dependencies.{Dependency, left_of, right_of}
 use Rattle.schema_model.specs.Schemas.{names_of, naming_of}
@@ -15,6 +16,10 @@ use Rattle.derivation_grammar.specs.Lines.{DerivationBody, by_rule, by_decomposi
 use Rattle.derivation_grammar.specs.Meanings.{MeanDerivationLines}
 
 -- ---- what the rule of a line gives
+-- what lines state
+abbrev pub stated_by : List DerivationLine → List Dependency
+stated_by lines = map (λ l. l.stated) lines
+
 -- what the line of this number states, which is counted from 1
 abbrev pub stated_at : List Dependency → ℕ → Option Dependency
 stated_at before p = if p == 0 then None else slice_get before (p - 1)
@@ -56,7 +61,7 @@ outcome_of_line s before stated (by_decomposition p) =
 outcome_of_line s before stated (by_further r p q) =
     over_two (further_conclusion r) (stated_at before p) (stated_at before q)
 
--- ---- derivations
+-- ---- what is derived
 -- a line is numbered in its turn, and its rule gives what it states
 pub record IsDerived (s : Schema) (before : List Dependency) (l : DerivationLine) : Type 0 where
   pub number : l.number ≡ length before + 1
@@ -66,6 +71,13 @@ pub record IsDerived (s : Schema) (before : List Dependency) (l : DerivationLine
 abbrev pub AreDerived : Schema → List Dependency → List DerivationLine → Type 0
 AreDerived s before [] = Unit {0}
 AreDerived s before (l ∷ ls) = IsDerived s before l × AreDerived s (before ++ l.stated ∷ []) ls
+
+-- the last of these lines states d
+pub record LastStates (lines : List DerivationLine) (d : Dependency) : Type 0 where
+  pub before : List DerivationLine
+  pub last : DerivationLine
+  pub whole : lines ≡ before ++ last ∷ []
+  pub states : last.stated ≡ d
 
 -- the lines of a text, within the limit, are derived, and the last one states d
 pub record Derives (s : Schema) (text : List ℕ) (d : Dependency) : Type 0 where

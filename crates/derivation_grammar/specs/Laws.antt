@@ -13,10 +13,10 @@ use Rattle.schema_grammar.specs.declared.refusal.SchemaRefusal.{SchemaRefusal}
 use Rattle.schema_grammar.specs.Rests.{rest_from}
 use Rattle.proof_grammar.specs.Diagnostics.{LineDiagnostic}
 use Rattle.proof_grammar.specs.Spelling.{SpellsWithin}
-use Rattle.derivation_grammar.specs.Derivations.{AreDerived, Derives}
+use Rattle.derivation_grammar.specs.Derivations.{AreDerived, LastStates, Derives}
 use Rattle.derivation_grammar.specs.LineDiagnostics.{RefusesDerivationLine}
 use Rattle.derivation_grammar.specs.Lines.{DerivationLine, derivation_line}
-use Rattle.derivation_grammar.specs.Meanings.{MeansDerivationLine}
+use Rattle.derivation_grammar.specs.Meanings.{MeansDerivationLine, MeansDerivation}
 use Rattle.derivation_grammar.specs.Refusals.{IsRefusedDerivation}
 use Rattle.derivation_grammar.specs.Texts.{read_derivation}
 
@@ -35,27 +35,36 @@ LineRefusal =
     → (derivation_line names (rest_from number 1 (lex (mode.numbered naming) text)) ≡ Err e)
     ↔ RefusesDerivationLine naming names number text e
 
--- a text is read exactly as what it derives
+-- a text is read exactly as the lines of which it is a derivation
 abbrev pub DerivationReading : Type 0
-DerivationReading = (s : Schema) (text : List ℕ) (d : Dependency)
-    → (read_derivation s text ≡ Ok d) ↔ Derives s text d
+DerivationReading = (s : Schema) (text : List ℕ) (lines : List DerivationLine)
+    → (read_derivation s text ≡ Ok lines) ↔ MeansDerivation s text lines
 
 -- the reading of a text refuses it exactly as the definition does
 abbrev pub DerivationRefusal : Type 0
 DerivationRefusal = (s : Schema) (text : List ℕ) (e : LineDiagnostic)
     → (read_derivation s text ≡ Err e) ↔ IsRefusedDerivation s text e
 
--- a text derives something or is refused
+-- a text is a derivation or is refused
 abbrev pub ReadOrRefused : Type 0
 ReadOrRefused = (s : Schema) (text : List ℕ)
-    → ((d : Dependency) × Derives s text d) ⊎ ((e : LineDiagnostic) × IsRefusedDerivation s text e)
+    → ((lines : List DerivationLine) × MeansDerivation s text lines)
+    ⊎ ((e : LineDiagnostic) × IsRefusedDerivation s text e)
 
--- it derives one dependency at most, is refused in one way at most, and never both
+-- it is a derivation of one list of lines at most, is refused in one way at most, and never both
 abbrev pub OneOutcome : Type 0
 OneOutcome = (s : Schema) (text : List ℕ)
-    → ((d e : Dependency) → Derives s text d → Derives s text e → d ≡ e)
+    → ((ks ls : List DerivationLine) → MeansDerivation s text ks → MeansDerivation s text ls → ks ≡ ls)
     × ((c e : LineDiagnostic) → IsRefusedDerivation s text c → IsRefusedDerivation s text e → c ≡ e)
-    × ((d : Dependency) (e : LineDiagnostic) → Derives s text d → IsRefusedDerivation s text e → ⊥)
+    × ((ls : List DerivationLine) (e : LineDiagnostic) → MeansDerivation s text ls
+    → IsRefusedDerivation s text e → ⊥)
+
+-- a text derives something exactly where it is a derivation of lines each of which is derived, and of which
+-- the last states that
+abbrev pub DerivesByLines : Type 0
+DerivesByLines = (s : Schema) (text : List ℕ) (d : Dependency)
+    → Derives s text d
+    ↔ ((lines : List DerivationLine) × MeansDerivation s text lines × AreDerived s [] lines × LastStates lines d)
 
 -- ---- soundness
 -- what each line of derived lines states is implied

@@ -1,12 +1,16 @@
--- What the lines of a derivation mean, by their grammar: for what a text derives (`Derivations`).
-use Rattle.std.specs.Prelude.{◌≡◌, ℕ, List, [], ◌∷◌, ◌++◌, codes}
+-- What the lines of a derivation mean, by their grammar, and of which lines a text is a derivation: for
+-- `read_derivation`, and for what a text derives (`Derivations`).
+use Rattle.std.specs.Prelude.{◌≡◌, ◌<◌, ◌≤◌, ◌+◌, ℕ, List, [], ◌∷◌, ◌++◌, All, length, codes}
 use Rattle.std.specs.List.{AllZip}
+use Rattle.schema_model.specs.Schemas.{Schema, names_of, naming_of}
+use Rattle.derivation.specs.declared.measures.TheConstants.{MOST_NODES}
 use Rattle.schema_model.specs.declared.naming.Naming.{Naming}
 use Rattle.lexer.specs.Modes as mode
 use Rattle.lexer.specs.Tokens.{Mark, lex}
 use Rattle.schema_grammar.specs.declared.format.Format.TheVariants as format
 use Rattle.schema_grammar.specs.Meanings.{HasTokens, IsDependency}
-use Rattle.proof_grammar.specs.Meanings.{IsColon, IsNumber, IsKeyword, IsRule}
+use Rattle.proof_grammar.specs.Lines.{by_step, by_pair}
+use Rattle.proof_grammar.specs.Meanings.{IsColon, IsNumber, IsKeyword, IsRule, certificate_lines}
 use Rattle.derivation_rules.specs.FurtherRules.{Further}
 use Rattle.derivation_rules.specs.FurtherRules as further
 use Rattle.derivation_grammar.specs.Lines.{DerivationBody, by_rule, by_decomposition, by_further, DerivationLine}
@@ -67,3 +71,38 @@ pub record MeansDerivationLine (naming : Naming) (names : List (List ℕ)) (text
 -- each text means its line
 abbrev pub MeanDerivationLines : Naming → List (List ℕ) → List (List ℕ) → List DerivationLine → Type 0
 MeanDerivationLines naming names = AllZip (MeansDerivationLine naming names)
+
+-- ---- lines one after another
+-- the numbers of the lines that a rule names, in its order
+abbrev pub premises_of : DerivationBody → List ℕ
+premises_of (by_rule (by_step r p)) = p ∷ []
+premises_of (by_rule (by_pair r p q)) = p ∷ q ∷ []
+premises_of (by_rule _) = []
+premises_of (by_decomposition p) = p ∷ []
+premises_of (by_further r p q) = p ∷ q ∷ []
+
+-- the number of one of so many lines
+abbrev pub IsEarlier : ℕ → ℕ → Type 0
+IsEarlier count p = (0 < p) × (p ≤ count)
+
+-- a line after so many others is numbered in its turn, and its rule names earlier lines
+pub record IsInTurn (count : ℕ) (l : DerivationLine) : Type 0 where
+  pub number : l.number ≡ count + 1
+  pub premises : All (IsEarlier count) (premises_of l.body)
+
+-- so is each of these, after so many others
+abbrev pub AreInTurn : ℕ → List DerivationLine → Type 0
+AreInTurn count [] = Unit {0}
+AreInTurn count (l ∷ ls) = IsInTurn count l × AreInTurn (count + 1) ls
+
+-- a text is a derivation of these lines, whatever their rules give: it means them, they stand in their turn,
+-- and there is one and no more than the limit allows
+pub record MeansDerivation (s : Schema) (text : List ℕ) (lines : List DerivationLine) : Type 0 where
+  pub mean : MeanDerivationLines (naming_of s) (names_of s) (certificate_lines (naming_of s) text) lines
+  pub in_turn : AreInTurn 0 lines
+  pub some : 0 < length lines
+  pub lines_fit : length lines ≤ MOST_NODES
+
+-- lines are a derivation of some text
+abbrev pub IsDerivation : Schema → List DerivationLine → Type 0
+IsDerivation s lines = (text : List ℕ) × MeansDerivation s text lines

@@ -1,44 +1,33 @@
 -- Why a derivation is refused, and at which line of the text: for `read_derivation` and
--- `check derivation`.
-use Rattle.std.specs.Prelude.{◌≡◌, ◌⊎◌, ◌≤◌, ℕ, ◌+◌, List, [], length, map, None, Some, Ok, Err}
+-- `check derivation`. What the rules of its lines give is no ground.
+use Rattle.std.specs.Prelude.{◌≡◌, ◌⊎◌, ◌≤◌, ℕ, ◌+◌, List, [], All, length}
 use Rattle.schema_model.specs.Schemas.{Schema}
-use Rattle.dep_model.specs.Dependencies.{Dependency}
 use Rattle.schema_model.specs.Schemas.{names_of, naming_of}
 use Rattle.derivation.specs.declared.measures.TheConstants.{MOST_NODES}
 use Rattle.schema_model.specs.declared.naming.Naming.{Naming}
 use Rattle.lexer.specs.Lines.{line_texts, without_mark}
 use Rattle.schema_grammar.specs.declared.refusal.SchemaRefusal.{SchemaRefusal}
 use Rattle.proof_grammar.specs.declared.refusal.ProofRefusal.{ProofRefusal}
-use Rattle.proof_grammar.specs.Diagnostics.{Diagnostic, LineDiagnostic, bad_line, wrong_number, no_such_line, too_many_lines, unsound, states_other, empty_proof, line_diagnostic_of}
+use Rattle.proof_grammar.specs.Diagnostics.{Diagnostic, LineDiagnostic, bad_line, wrong_number, no_such_line, too_many_lines, empty_proof, line_diagnostic_of}
 use Rattle.proof_grammar.specs.Meanings.{certificate_lines_of, certificate_lines}
 use Rattle.proof_grammar.specs.Refusals.{StandsAt}
 use Rattle.proof_grammar.specs.Wrongs.{rank}
-use Rattle.derivation_grammar.specs.Derivations.{outcome_of_line, AreDerived}
 use Rattle.derivation_grammar.specs.LineDiagnostics.{RefusesDerivationLine}
 use Rattle.derivation_grammar.specs.Lines.{DerivationLine}
-use Rattle.derivation_grammar.specs.Meanings.{MeansDerivationLine, MeanDerivationLines}
-
--- what lines state
-abbrev pub stated_by : List DerivationLine → List Dependency
-stated_by lines = map (λ l. l.stated) lines
+use Rattle.derivation_grammar.specs.Meanings.{MeansDerivationLine, MeanDerivationLines, premises_of, IsEarlier, AreInTurn}
 
 -- ---- at a line
--- what is wrong with a line after lines that state these
-abbrev pub Wrong : Schema → List Dependency → DerivationLine → Diagnostic → Type 0
-Wrong s before l wrong_number = l.number ≡ length before + 1 → ⊥
-Wrong s before l no_such_line = outcome_of_line s before l.stated l.body ≡ None
-Wrong s before l too_many_lines = MOST_NODES ≤ length before
-Wrong s before l (unsound fault) =
-    (fault.node ≡ l.number) × (outcome_of_line s before l.stated l.body ≡ Some (Err fault.kind))
-Wrong s before l (states_other stated concluded) =
-    (stated ≡ l.stated) × (outcome_of_line s before l.stated l.body ≡ Some (Ok concluded))
-    × (l.stated ≡ concluded → ⊥)
-Wrong s before l _ = ⊥
+-- what is wrong with a line after so many others
+abbrev pub Wrong : ℕ → DerivationLine → Diagnostic → Type 0
+Wrong count l wrong_number = l.number ≡ count + 1 → ⊥
+Wrong count l no_such_line = All (IsEarlier count) (premises_of l.body) → ⊥
+Wrong count l too_many_lines = MOST_NODES ≤ count
+Wrong count l _ = ⊥
 
 -- what is wrong with a line, and comes first of all that is, in the order of certificates
-pub record IsFirstWrong (s : Schema) (before : List Dependency) (l : DerivationLine) (c : Diagnostic) : Type 0 where
-  pub wrong : Wrong s before l c
-  pub first : (other : Diagnostic) → Wrong s before l other → rank c ≤ rank other
+pub record IsFirstWrong (count : ℕ) (l : DerivationLine) (c : Diagnostic) : Type 0 where
+  pub wrong : Wrong count l c
+  pub first : (other : Diagnostic) → Wrong count l other → rank c ≤ rank other
 
 -- the line breaks the grammar: it is refused by its first diagnostic
 pub record IsBadLine (naming : Naming) (names : List (List ℕ)) (here : List ℕ) (at : ℕ) (c : Diagnostic)
@@ -51,11 +40,11 @@ pub record IsBadLine (naming : Naming) (names : List (List ℕ)) (here : List �
 pub record IsWrongLine (s : Schema) (lines : List DerivationLine) (here : List ℕ) (c : Diagnostic) : Type 0 where
   pub line : DerivationLine
   pub means : MeansDerivationLine (naming_of s) (names_of s) here line
-  pub wrong : IsFirstWrong s (stated_by lines) line c
+  pub wrong : IsFirstWrong (length lines) line c
 
--- lines are derived, and within the limit
-pub record AreRead (s : Schema) (lines : List DerivationLine) : Type 0 where
-  pub derived : AreDerived s [] lines
+-- lines stand in their turn, and within the limit
+pub record AreRead (lines : List DerivationLine) : Type 0 where
+  pub in_turn : AreInTurn 0 lines
   pub lines_fit : length lines ≤ MOST_NODES
 
 -- the lines before are read, and this one is refused
@@ -65,7 +54,7 @@ pub record IsRefusedAt (s : Schema) (text : List ℕ) (e : LineDiagnostic) : Typ
   pub stands : StandsAt (naming_of s) text before here e.line
   pub lines : List DerivationLine
   pub mean : MeanDerivationLines (naming_of s) (names_of s) (certificate_lines_of (naming_of s) before) lines
-  pub read : AreRead s lines
+  pub read : AreRead lines
   pub why : IsBadLine (naming_of s) (names_of s) here e.line e.diagnostic
       ⊎ IsWrongLine s lines here e.diagnostic
 

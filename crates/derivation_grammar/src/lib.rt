@@ -2,20 +2,23 @@
 //! derivations, which their reader promises.
 //!
 //! A line of a derivation is one of a certificate, or has a further rule in its place. It may be
-//! used as often as one likes, or never. A text derives what its last line states, where each
-//! line's rule gives what the line states from what earlier lines state; else it is refused at the
-//! first line that goes wrong, and there for the first diagnostic. There is no code here but the
-//! names of the rules.
+//! used as often as one likes, or never. A text is a derivation of its lines where each is
+//! numbered in its turn and names earlier lines, whatever its rule gives; else it is refused at
+//! the first line that goes wrong, and there for the first diagnostic. It derives what its last
+//! line states, where each line's rule gives what the line states from what earlier lines state.
+//! There is no code here but the names of the rules.
 //!
-//! Promises: a text derives one dependency, or has one refusal; each accepted line is implied; a
-//! certificate is a derivation.
+//! Promises: a text is one derivation, or has one refusal; each line of a text that derives
+//! something is implied; a certificate is a derivation of what it proves.
 #![tactic(auto)]
 
 mod laws;
 mod line_rule;
 
+pub use derivation::MOST_NODES;
 pub use laws::{
     certificate_is_derivation, derivation_reading, derivation_refusal, derived_is_implied,
-    each_line_is_implied, line_meaning, line_refusal, one_outcome, read_or_refused,
+    derives_by_lines, each_line_is_implied, line_meaning, line_refusal, one_outcome,
+    read_or_refused,
 };
 pub use line_rule::LineRule;

@@ -1,11 +1,7 @@
 -- What the values of the reader stand for, in the words of the grammar: for derivation_text. `Desk` does
 -- not cite it.
-use Rattle.std.specs.Prelude.{Option, None, Some, option_map, Result, Ok, Err}
-use Rattle.dep_model.specs.declared.dep.Dep.{Dep}
-use Rattle.dep_model.specs.Dependencies.{Dependency}
+use Rattle.std.specs.Prelude.{List, map}
 use Rattle.dep_model.specs.Deps.{dependency_of}
-use Rattle.derivation.specs.declared.fault.FaultKind.{FaultKind}
-use Rattle.derivation.specs.Derivs.{outcome_of}
 use Rattle.proof_text.specs.Views.{body_of}
 use Rattle.derivation_rules.specs.Views.{further_of}
 use Rattle.derivation_grammar.specs.Lines.{DerivationBody, by_rule, by_decomposition, by_further, DerivationLine}
@@ -21,11 +17,5 @@ abbrev pub derivation_line_of : lines.DerivationLine → DerivationLine
 derivation_line_of l =
     record { number = l.number; stated = dependency_of l.stated; body = body_of_line l.body }
 
-abbrev pub maybe_outcome : Option (Result Dep FaultKind) → Option (Result Dependency FaultKind)
-maybe_outcome o = option_map outcome_of o
-
--- a fact of what a rule concludes, where it concludes something
-abbrev pub IfConcluded : (Dep → Type 0) → Option (Result Dep FaultKind) → Type 0
-IfConcluded P None = Unit {0}
-IfConcluded P (Some (Err why)) = Unit {0}
-IfConcluded P (Some (Ok d)) = P d
+abbrev pub derivation_lines_of : List lines.DerivationLine → List DerivationLine
+derivation_lines_of items = map derivation_line_of items

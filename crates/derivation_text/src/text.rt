@@ -1,17 +1,15 @@
-ghost use Rattle.std.specs.Prelude.{◌≡◌, ◌+◌, ◌<◌, ◌≤◌, ◌^◌, length, IfOk, IfErr, OnOk, Ok, Err, All};
+ghost use Rattle.std.specs.Prelude.{◌≡◌, ◌+◌, ◌<◌, ◌≤◌, ◌^◌, length, IfOk, IfErr, OnOk, Ok};
 ghost use Rattle.attr_sets.specs.Attributes.{Attributes};
-ghost use Rattle.dep_model.specs.Dependencies.{IsWithin};
-ghost use Rattle.dep_model.specs.Deps.{dependency_of, dependencies_of, IsDepWithin};
 ghost use Rattle.dep_model.specs.Failures.{RefusesAs};
-ghost use Rattle.schema_model.specs.Schemas.{universe_of, ImpliedBy};
 ghost use Rattle.proof_grammar.specs.Diagnostics.{IsFound, IsFoundAt, IsRefusalWithin};
-ghost use Rattle.derivation_grammar.specs.Derivations.{Derives};
+ghost use Rattle.derivation_grammar.specs.Meanings.{MeansDerivation};
 ghost use Rattle.derivation_grammar.specs.Refusals.{RefusesDerivation};
 ghost use Rattle.derivation_grammar.specs.Texts.{read_one, finished};
+ghost use Rattle.derivation_text.specs.Views.{derivation_lines_of};
 
-use crate::line::read_line;
-use crate::outcome::add_line;
-use dep_model::{Dep, Failure};
+use crate::adding::add_line;
+use crate::line::{DerivationLine, read_line};
+use dep_model::Failure;
 use lexer::{Mode, cut_line, without_mark};
 use proof_grammar::{ProofRefusal, ProofRefusalKind};
 use proof_text::{MOST_PROOF_BYTES, is_blank, is_yes};
@@ -19,22 +17,21 @@ use schema_model::Schema;
 use std::alloc::Global;
 use tokens::{Cursor, Guide, Names, NextToken};
 
-/// What a derivation derives, within the limit on lines, or its refusal: the first line that goes wrong,
-/// and there the first diagnostic in the order of `ProofRefusalKind`.
+/// The lines of which a text is a derivation, within the limit, or its refusal: the first line that goes
+/// wrong, and there the first diagnostic in the order of `ProofRefusalKind`. What the rules of the lines
+/// give is not looked at.
 pub fn read_derivation(
     alloc: Global,
     schema: &Schema,
     text: &[u8],
-) -> Result<Dep, Failure<ProofRefusal>>
+) -> Result<Vec<DerivationLine>, Failure<ProofRefusal>>
     requires { length text.now ≤ MOST_PROOF_BYTES }
-    ensures ok { IfOk result (λ d. Derives schema.now text.now (dependency_of d)) }
-    // Whoever wrote it.
-    ensures implied { IfOk result (λ d. ImpliedBy schema.now (dependency_of d)) }
-    ensures dep { IfOk result (IsDepWithin (universe_of schema.now)) }
+    ensures ok { IfOk result
+        (λ lines. MeansDerivation schema.now text.now (derivation_lines_of lines.items)) }
     ensures err { IfErr result (RefusesAs (RefusesDerivation schema.now text.now)) }
-    // The dependencies that it names can be printed.
-    ensures within { IfErr result
-        (RefusesAs (λ refusal. IsRefusalWithin (universe_of schema.now) refusal.kind)) }
+    // A refusal names no dependency.
+    ensures within { (u : Attributes)
+        → IfErr result (RefusesAs (λ refusal. IsRefusalWithin u refusal.kind)) }
 {
     let guide = Guide::of(schema);
     let mut before = Vec::new(alloc);
@@ -51,7 +48,7 @@ pub fn read_derivation(
             Ok(still_fresh) => match after {
                 None => {
                     return match finish(before, number) {
-                        Ok(dep) => Ok(dep),
+                        Ok(lines) => Ok(lines),
                         Err(refusal) => Err(Failure::Refused(refusal)),
                     };
                 }
@@ -65,20 +62,20 @@ pub fn read_derivation(
     }
 }
 
-/// What the last line states. The text ends with line `last`.
+/// The lines of a text that ends with line `last`, if there is one.
 #[tactic(auto, unfolding(derivation_grammar::specs::Texts::finished))]
-fn finish(mut before: Vec<Dep>, last: u32) -> Result<Dep, ProofRefusal>
-    ensures ok { IfOk result (λ d. finished last (dependencies_of before.items) ≡ Ok (dependency_of d)) }
-    ensures err { IfErr result (λ e. IsFoundAt e (finished last (dependencies_of before.items))) }
+fn finish(before: Vec<DerivationLine>, last: u32) -> Result<Vec<DerivationLine>, ProofRefusal>
+    ensures ok { IfOk result
+        (λ lines. finished last (derivation_lines_of before.items) ≡ Ok (derivation_lines_of lines.items)) }
+    ensures err { IfErr result
+        (λ e. IsFoundAt e (finished last (derivation_lines_of before.items))) }
     ensures within { (u : Attributes) → IfErr result (λ e. IsRefusalWithin u e.kind) }
 {
-    match before.pop() {
-        Some(dep) => Ok(dep),
-        None => {
-            let kind = ProofRefusalKind::EmptyProof;
-            Err(ProofRefusal { line: last, kind })
-        }
+    if before.is_empty() {
+        let kind = ProofRefusalKind::EmptyProof;
+        return Err(ProofRefusal { line: last, kind });
     }
+    Ok(before)
 }
 
 /// Reads one line of the text. Whether a `yes` may still come is handed in and answered.
@@ -88,22 +85,19 @@ derivation_grammar::specs::Lines::derivation_line, schema_grammar::specs::Rests:
 fn read_one(
     schema: &Schema,
     guide: &Guide,
-    before: &mut Vec<Dep>,
+    before: &mut Vec<DerivationLine>,
     fresh: bool,
     number: u32,
     text: &[u8],
 ) -> Result<bool, Failure<ProofRefusalKind>>
     requires fits_u32 { 1 + length text.now < 2 ^ 32 }
-    requires before { All (IsWithin (universe_of schema.now)) (dependencies_of before.old.items) }
     ensures ok { IfOk result
-        (λ still. read_one schema.now fresh number (dependencies_of before.old.items) text.now
-        ≡ Ok (still, dependencies_of before.new.items)) }
-    ensures before { OnOk result
-        (All (IsWithin (universe_of schema.now)) (dependencies_of before.new.items)) }
+        (λ still. read_one schema.now fresh number (derivation_lines_of before.old.items) text.now
+        ≡ Ok (still, derivation_lines_of before.new.items)) }
     ensures err { IfErr result
         (RefusesAs (λ why. IsFound why (read_one schema.now fresh number
-        (dependencies_of before.old.items) text.now))) }
-    ensures within { IfErr result (RefusesAs (IsRefusalWithin (universe_of schema.now))) }
+        (derivation_lines_of before.old.items) text.now))) }
+    ensures within { (u : Attributes) → IfErr result (RefusesAs (IsRefusalWithin u)) }
 {
     let start = Cursor::start(number, Mode::numbered(schema.naming()), text);
     match start.next() {
@@ -116,10 +110,10 @@ fn read_one(
             }
             match read_line(&Names::Guided(schema, guide), first, &word, rest) {
                 Err(refusal) => Err(Failure::Refused(ProofRefusalKind::BadLine(refusal))),
-                Ok(line) => {
-                    add_line(schema, before, &line)?;
-                    Ok(false)
-                }
+                Ok(line) => match add_line(before, line) {
+                    Ok(()) => Ok(false),
+                    Err(failure) => Err(failure),
+                },
             }
         }
     }

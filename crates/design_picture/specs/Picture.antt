@@ -1,6 +1,6 @@
 -- A design as an SVG text: for `draw_design` and the pictures of a page.
-use Rattle.std.specs.Prelude.{ℕ, zero, suc, ◌+◌, ◌-◌, ◌*◌, Bool, if◌then◌else◌, List, [], ◌∷◌, ◌++◌, codes, decimal, slice_get, slice_index_or, unwrap_or, option_map, length}
-use Rattle.std.specs.List.{flat_map}
+use Rattle.std.specs.Prelude.{ℕ, zero, suc, ◌+◌, ◌-◌, ◌*◌, Bool, false, if◌then◌else◌, List, [], ◌∷◌, ◌++◌, codes, decimal, slice_get, slice_index_or, unwrap_or, option_map, length}
+use Rattle.std.specs.List.{flat_map, list_any}
 use Rattle.attr_sets.specs.Attributes.{Attributes, below, count_below, intersection}
 use Rattle.attr_sets.specs.Sets.{attributes}
 use Rattle.attr_sets.specs.declared.set.TheConstants.{MOST_ATTRIBUTES}
@@ -70,9 +70,16 @@ lines_at tables places k = unwrap_or
     (slice_get tables k)) []
 
 -- ---- boxes
--- what marks a name in the key
-abbrev pub key_mark : Bool → List ℕ
-key_mark in_key = if in_key then codes " class=\"k\"" else []
+-- whether an attribute is in another key of a table than the first, where these are known
+abbrev pub in_other_key : TableDesign → ℕ → Bool
+in_other_key table k =
+    unwrap_or (option_map (λ keys. list_any (λ key. attributes key k) keys.items) table.other_keys) false
+
+-- what marks an attribute of the first key of a table, and one of another key
+unfoldable pub mark_of : TableDesign → ℕ → List ℕ
+mark_of table k =
+    if attributes table.key k then codes " class=\"k\""
+    else if in_other_key table k then codes " class=\"o\"" else []
 
 -- the frame of a box
 unfoldable pub frame_text : TablePlace → List ℕ
@@ -86,10 +93,10 @@ box_name_text place row mark name =
     point_text (codes "<text x=\"") (place.left + 8) (codes "\" y=\"") (place.top + (24 * row + 17))
     ++ codes "\"" ++ mark ++ codes ">" ++ html_text name ++ codes "</text>\n"
 
--- an attribute in the box of its table, marked where it is in the key
+-- an attribute in the box of its table, marked where it is in a key
 unfoldable pub attribute_text : Schema → TableDesign → TablePlace → ℕ → List ℕ
 attribute_text s table place k =
-    box_name_text place (row_of (attributes table.scheme) k) (key_mark (attributes table.key k))
+    box_name_text place (row_of (attributes table.scheme) k) (mark_of table k)
     (slice_index_or (names_of s) k [])
 
 -- the box of a table: its frame, its name, and its attributes, ascending

@@ -1,16 +1,18 @@
 //! The boxes of the tables.
 
 ghost use Rattle.std.specs.Prelude.{◌≡◌, ◌++◌, ◌<◌, length, OnOk};
-ghost use Rattle.std.specs.List.{flat_map};
+ghost use Rattle.std.specs.List.{flat_map, list_any};
 ghost use Rattle.attr_sets.specs.Sets.{attributes};
+ghost use Rattle.attr_sets.specs.declared.set.TheConstants.{MOST_ATTRIBUTES};
 ghost use Rattle.dep_model.specs.Projections.{members_below};
 ghost use Rattle.schema_model.specs.Schemas.{width_of};
-ghost use Rattle.design_picture.specs.Picture.{attribute_text, box_at, box_text, frame_text, key_mark, box_name_text, texts_below};
+ghost use Rattle.design_picture.specs.Picture.{attribute_text, box_at, box_text, frame_text, in_other_key, mark_of, box_name_text, texts_below};
 
 use crate::places::{TablePlace, place_at};
 use crate::points::add_point;
 use crate::rows::row_of;
 use crate::sums::{product, sum};
+use attr_sets::AttrSet;
 use byte_texts::add;
 use ddl_text::TableDesign;
 use dep_model::OutOfMemory;
@@ -115,7 +117,7 @@ fn add_attributes(
     Ok(())
 }
 
-// Adds an attribute, marked where it is in the key.
+// Adds an attribute, marked where it is in a key.
 #[tactic(auto, unfolding(crate::specs::Picture::attribute_text))]
 fn add_attribute(
     alloc: Global,
@@ -134,16 +136,43 @@ fn add_attribute(
         text,
         place,
         row_of(table.scheme, attribute),
-        key_mark(table.key.contains(attribute)),
+        mark_of(table, attribute),
         schema.name(attribute).bytes(),
     )
 }
 
-// What marks a name in the key.
-fn key_mark(in_key: bool) -> &'static [u8]
-    ensures mark { result.now ≡ key_mark in_key }
+// What marks an attribute of the first key of a table, and one of another key.
+#[tactic(auto, unfolding(crate::specs::Picture::mark_of))]
+fn mark_of(table: &TableDesign, attribute: u8) -> &'static [u8]
+    requires attribute { attribute < MOST_ATTRIBUTES }
+    ensures mark { result.now ≡ mark_of table.now attribute }
 {
-    if in_key { b" class=\"k\"" } else { b"" }
+    if table.key.contains(attribute) {
+        b" class=\"k\""
+    } else if in_other_key(table, attribute) {
+        b" class=\"o\""
+    } else {
+        b""
+    }
+}
+
+// Whether an attribute is in another key of a table than the first.
+fn in_other_key(table: &TableDesign, attribute: u8) -> bool
+    requires attribute { attribute < MOST_ATTRIBUTES }
+    ensures other { result ≡ in_other_key table.now attribute }
+{
+    match &table.other_keys {
+        Some(keys) => in_some_key(keys, attribute),
+        None => false,
+    }
+}
+
+// Whether an attribute is in one of these keys.
+fn in_some_key(keys: &[AttrSet], attribute: u8) -> bool
+    requires attribute { attribute < MOST_ATTRIBUTES }
+    ensures some { result ≡ list_any (λ key. attributes key attribute) keys.now }
+{
+    keys.iter().any(|key| key.contains(attribute))
 }
 
 // Adds a name at a row, with what marks it.

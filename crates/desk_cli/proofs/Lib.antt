@@ -1,2 +1,3 @@
 pub mod EndingLemmas
 mod NoteLemmas
+mod SampleLemmas

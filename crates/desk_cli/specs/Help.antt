@@ -5,15 +5,17 @@ use Rattle.nearest_lines.specs.Nearest.{nearest}
 use Rattle.desk_texts.specs.Texts.{line}
 
 abbrev pub version_text : List ℕ
-version_text = line (codes "desk 0.11.0")
+version_text = line (codes "desk 0.12.0")
 
 abbrev pub help_text : List ℕ
 help_text =
     line (codes "desk implies SCHEMA GOAL              "
     ++ codes "whether the schema implies the goal, with a proof or two rows against it")
+    ++ line (codes "desk explain implies SCHEMA GOAL      "
+    ++ codes "the same with a derivation as one writes it by hand, in few lines")
     ++ line (codes "desk check proof SCHEMA FILE GOAL     whether the certificate in FILE proves the goal")
     ++ line (codes "desk check derivation SCHEMA FILE GOAL  "
-    ++ codes "whether the derivation in FILE, by more rules, proves the goal")
+    ++ codes "whether the derivation in FILE, by more rules, proves the goal, and which lines are wrong")
     ++ line (codes "desk check rows SCHEMA CSV            "
     ++ codes "whether the rows in CSV are legal, and which break what")
     ++ line (codes "desk check references CSV NAMES OTHER NAMES2  "
@@ -27,7 +29,11 @@ help_text =
     ++ codes "whether two schemas over the same names say the same")
     ++ line (codes "desk check cover SCHEMA OTHER         "
     ++ codes "whether OTHER is a minimal cover of SCHEMA, and what keeps it from being one")
+    ++ line (codes "desk check cover canonical SCHEMA OTHER  "
+    ++ codes "the same of a canonical cover: each left side once, with all of its right sides")
     ++ line (codes "desk cover SCHEMA                     what says the same, shortened")
+    ++ line (codes "desk cover canonical SCHEMA           "
+    ++ codes "the same with each left side once, and all of its right sides")
     ++ line (codes "desk basis SCHEMA SET                 "
     ++ codes "what the set of attributes determines, and the blocks of the others")
     ++ line (codes "desk closure SCHEMA SET               how the closure of the set comes about, step by step")

@@ -1,17 +1,18 @@
 -- Which answers a command allows, and the words that form it: for `desk`, by `Desk`.
-use Rattle.std.specs.Prelude.{ℕ, List, [], ◌∷◌, MatchOption}
+use Rattle.std.specs.Prelude.{ℕ, ◌≤◌, List, [], ◌∷◌, MatchOption}
 use Rattle.dep_model.specs.Tuples.{Relation}
 use Rattle.schema_model.specs.Schemas.{Schema}
 use Rattle.table_join.specs.Tables.{tables_of}
 use Rattle.plan_printer.specs.NamedPlans.{NamedSchemes}
+use Rattle.sample_rows.specs.declared.rows.TheConstants.{MOST_PERSONS}
 use Rattle.desk_responses.specs.declared.status.Status.TheVariants.{Yes, Refused}
 use Rattle.desk_responses.specs.ResponseValues.{Allowed, Says}
 use Rattle.desk_implication.specs.Bases.{GivesBasis}
 use Rattle.desk_implication.specs.Certificates.{ChecksProof}
 use Rattle.desk_implication.specs.Closures.{GivesClosure}
-use Rattle.desk_covers.specs.CoverChecks.{ChecksCover}
+use Rattle.desk_covers.specs.CoverChecks.{ChecksCanonicalCover, ChecksCover}
 use Rattle.desk_covers.specs.CoverReasons.{ExplainsCover}
-use Rattle.desk_covers.specs.Covering.{GivesCover}
+use Rattle.desk_covers.specs.Covering.{GivesCanonicalCover, GivesCover}
 use Rattle.desk_designs.specs.Decompositions.{Splits, SplitsWide}
 use Rattle.desk_designs.specs.Designs.{WritesForm, WritesPlan}
 use Rattle.desk_designs.specs.FewestReasons.{ExplainsFewest}
@@ -25,7 +26,7 @@ use Rattle.desk_implication.specs.Derivations.{ChecksDerivation}
 use Rattle.desk_designs.specs.Drawings.{DrawsForm, DrawsSchemes}
 use Rattle.desk_exhibits.specs.Exhibits.{Exhibits}
 use Rattle.desk_words.specs.Forms as form
-use Rattle.desk_words.specs.Forms.{CommandForm, PlanQuestion, RowsQuestion, RulesQuestion, SchemaQuestion, Task, form_of}
+use Rattle.desk_words.specs.Forms.{CommandForm, PairQuestion, PlanQuestion, RowsQuestion, RulesQuestion, SchemaQuestion, Task, form_of}
 use Rattle.headed_rows.specs.Headings.{HeadedRows}
 use Rattle.desk_inputs.specs.FileKinds.{WithFile}
 use Rattle.desk_imports.specs.Columns.{ImportsColumns}
@@ -34,6 +35,7 @@ use Rattle.desk_inputs.specs.Headed.{headed_file, imported_file, whole_file}
 use Rattle.desk_inputs.specs.HeadedFiles.{WithHeadedFiles}
 use Rattle.desk_inputs.specs.Sql.{sql_file}
 use Rattle.desk_cli.specs.Help.{help_text, version_text}
+use Rattle.desk_implication.specs.Explanations.{ExplainsImplication}
 use Rattle.desk_implication.specs.Implication.{DecidesGoal}
 use Rattle.desk_inputs.specs.Inputs.{derivation_file, proof_file, schema_file}
 use Rattle.desk_designs.specs.Joins.{JudgesJoin}
@@ -70,6 +72,7 @@ use Rattle.desk_texts.specs.Texts.{unknown_words_text}
 unfoldable pub AnswersSchema : Schema → SchemaQuestion → Allowed
 AnswersSchema schema (form.implies goal) = DecidesGoal schema goal
 AnswersSchema schema form.cover = GivesCover schema
+AnswersSchema schema form.cover_canonical = GivesCanonicalCover schema
 AnswersSchema schema (form.basis set) = GivesBasis schema set
 AnswersSchema schema (form.closure set) = GivesClosure schema set
 AnswersSchema schema (form.project set) = Projects schema set
@@ -81,6 +84,7 @@ AnswersSchema schema form.synthesize_fewest = SynthesizesFewest schema
 AnswersSchema schema (form.split normal) = Splits schema normal
 AnswersSchema schema form.split_wide = SplitsWide schema
 AnswersSchema schema form.exhibit = Exhibits schema
+AnswersSchema schema (form.explain_implies goal) = ExplainsImplication schema goal
 AnswersSchema schema form.explain_cover = ExplainsCover schema
 AnswersSchema schema form.explain_keys = ExplainsKeys schema
 AnswersSchema schema form.explain_synthesize = ExplainsSynthesis schema
@@ -102,6 +106,12 @@ AnswersPlan schema plan form.forms_of_plan = ListsFormsOfPlan schema plan.scheme
 AnswersPlan schema plan form.ddl_plan = WritesPlan schema plan.names plan.schemes
 AnswersPlan schema plan (form.sql_migrate_plan name) = ScriptsMigrationByPlan schema plan.names plan.schemes name
 AnswersPlan schema plan form.draw_plan = DrawsSchemes schema plan.names plan.schemes
+
+-- what is asked of the schemas of two files
+unfoldable pub AnswersPair : Schema → Schema → List ℕ → List ℕ → PairQuestion → Allowed
+AnswersPair schema other file other_file form.check_same = ChecksSame schema other file other_file
+AnswersPair schema other file other_file form.check_cover = ChecksCover schema other file other_file
+AnswersPair schema other file other_file form.check_cover_canonical = ChecksCanonicalCover schema other file other_file
 
 -- what is asked of a schema and rows
 unfoldable pub AnswersRows : Schema → Relation → RowsQuestion → Allowed
@@ -145,15 +155,17 @@ Does looks r schema (form.migrate_plan_into planned file folder) =
 Does looks r schema (form.check_proof file goal) =
     WithFile (proof_file schema) r file (λ tree. ChecksProof schema tree goal)
 Does looks r schema (form.check_derivation file goal) =
-    WithFile (derivation_file schema) r file (λ derived. ChecksDerivation schema derived goal)
-Does looks r schema (form.check_same file other_file) =
-    WithFile schema_file r other_file (λ other. ChecksSame schema other file other_file)
-Does looks r schema (form.check_cover file other_file) =
-    WithFile schema_file r other_file (λ other. ChecksCover schema other file other_file)
+    WithFile (derivation_file schema) r file (λ lines. ChecksDerivation schema lines goal)
+Does looks r schema (form.of_pair file other_file question) =
+    WithFile schema_file r other_file (λ other. AnswersPair schema other file other_file question)
 Does looks r schema (form.rejoin files) = WithParts r schema files (λ parts. JoinsTables schema (tables_of parts))
 Does looks r schema (form.report file) = ReportsSchema file schema
 Does looks r schema (form.report_plan file planned) =
     WithFile (plan_file schema) r planned (λ plan. ReportsPlan file planned schema plan)
+
+-- so many invented persons, as many as the limit at most
+abbrev pub SamplesFew : ℕ → Allowed
+SamplesFew persons response = (persons ≤ MOST_PERSONS) × Samples persons response
 
 -- a command
 unfoldable pub Performs : Looks → Reading → CommandForm → Allowed
@@ -166,7 +178,7 @@ Performs looks r (form.check_references file names other other_names) =
     (λ own. WithFile headed_file r other (λ others. ChecksReferences own names others other_names))
 Performs looks r (form.import_csv file) = WithFile imported_file r file ImportsColumns
 Performs looks r (form.import_sql dialect file table) = WithFile sql_file r file (ImportsTable dialect table file)
-Performs looks r (form.sample persons) = Samples persons
+Performs looks r (form.sample persons) = SamplesFew persons
 Performs looks r form.help = Says Yes help_text
 Performs looks r form.version = Says Yes version_text
 

@@ -12,8 +12,9 @@ use std::alloc::Global;
 
 const HELP: &[u8] =
     b"desk implies SCHEMA GOAL              whether the schema implies the goal, with a proof or two rows against it
+desk explain implies SCHEMA GOAL      the same with a derivation as one writes it by hand, in few lines
 desk check proof SCHEMA FILE GOAL     whether the certificate in FILE proves the goal
-desk check derivation SCHEMA FILE GOAL  whether the derivation in FILE, by more rules, proves the goal
+desk check derivation SCHEMA FILE GOAL  whether the derivation in FILE, by more rules, proves the goal, and which lines are wrong
 desk check rows SCHEMA CSV            whether the rows in CSV are legal, and which break what
 desk check references CSV NAMES OTHER NAMES2  whether each row of CSV has its match in OTHER, and which have none
 desk check key SCHEMA SET             whether the set of attributes is a key, and why
@@ -22,7 +23,9 @@ desk check form FORM SCHEMA PLAN      whether each scheme of the plan is in the 
 desk check keeps SCHEMA PLAN          whether the plan keeps the functional dependencies
 desk check same SCHEMA OTHER          whether two schemas over the same names say the same
 desk check cover SCHEMA OTHER         whether OTHER is a minimal cover of SCHEMA, and what keeps it from being one
+desk check cover canonical SCHEMA OTHER  the same of a canonical cover: each left side once, with all of its right sides
 desk cover SCHEMA                     what says the same, shortened
+desk cover canonical SCHEMA           the same with each left side once, and all of its right sides
 desk basis SCHEMA SET                 what the set of attributes determines, and the blocks of the others
 desk closure SCHEMA SET               how the closure of the set comes about, step by step
 desk project SCHEMA SET               the functional dependencies inside the set, as a schema
@@ -92,7 +95,7 @@ pub fn nearest_commands(alloc: Global, words: &[Argument]) -> Result<Vec<u8>, Ou
 pub fn version(alloc: Global) -> Result<Response, EarlyExit>
     ensures response { RespondsAs (Says Status.Yes version_text) result }
 {
-    match Vec::from_slice(alloc, b"desk 0.11.0\n") {
+    match Vec::from_slice(alloc, b"desk 0.12.0\n") {
         Ok(text) => Ok(Response::with_text(Status::Yes, text)),
         Err(_) => Err(EarlyExit::OutOfMemory),
     }

@@ -9,12 +9,14 @@ ghost use Rattle.headed_rows.specs.Headers.{IsColumnHeader};
 ghost use Rattle.headed_rows.specs.Headings.{headed_of};
 ghost use Rattle.row_store.specs.declared.limits.TheConstants.{MOST_HEADED_ROWS};
 ghost use Rattle.plans.specs.Plans.{IsPlanOver, plan_of};
-ghost use Rattle.desk_words.specs.Commands.{plan_question, rows_question, rules_question, schema_question};
-ghost use Rattle.desk_cli.specs.Performs.{AnswersPlan, AnswersRows, AnswersRules, AnswersSchema};
+ghost use Rattle.desk_words.specs.Commands.{pair_question, plan_question, rows_question, rules_question, schema_question};
+ghost use Rattle.desk_cli.specs.Performs.{AnswersPair, AnswersPlan, AnswersRows, AnswersRules, AnswersSchema};
 ghost use Rattle.desk_responses.specs.Responses.{RespondsAs};
 
 use arguments::Argument;
-use desk_covers::{cover, explain_cover};
+use desk_covers::{
+    check_canonical_cover, check_cover, check_same, cover, cover_canonically, explain_cover,
+};
 use desk_designs::{
     check_form, check_join, check_keeps, draw_form, draw_plan, explain_fewest, explain_split,
     explain_synthesis, form_of_all, forms_of_plan, split_by_pairs, split_in_form,
@@ -22,13 +24,13 @@ use desk_designs::{
 };
 use desk_discovery::{discover_keys, discover_near_rules, discover_rules, discover_small_rules};
 use desk_exhibits::exhibit_relation;
-use desk_implication::{give_basis, give_closure, give_projection, implies};
+use desk_implication::{explain_implication, give_basis, give_closure, give_projection, implies};
 use desk_keys::{check_key, explain_keys, list_keys, list_keys_of_plan};
 use desk_measures::{keep_rows, list_offences, list_offences_by_row};
 use desk_responses::{EarlyExit, Response};
 use desk_scripts::{script_check, script_measure, script_migration, script_migration_by_plan};
 use desk_tables::check_rows;
-use desk_words::{PlanQuestion, RowsQuestion, RulesQuestion, SchemaQuestion};
+use desk_words::{PairQuestion, PlanQuestion, RowsQuestion, RulesQuestion, SchemaQuestion};
 use headed_rows::Headed;
 use plan_printer::NamedPlan;
 use plans::MOST_SCHEMES;
@@ -48,6 +50,7 @@ pub fn answer_schema(
     match question {
         SchemaQuestion::Implies { goal } => implies(alloc, schema, goal),
         SchemaQuestion::Cover => cover(alloc, schema),
+        SchemaQuestion::CoverCanonical => cover_canonically(alloc, schema),
         SchemaQuestion::Basis { set } => give_basis(alloc, schema, set),
         SchemaQuestion::Closure { set } => give_closure(alloc, schema, set),
         SchemaQuestion::Project { set } => give_projection(alloc, schema, set),
@@ -59,6 +62,7 @@ pub fn answer_schema(
         SchemaQuestion::Split { form } => split_in_form(alloc, schema, form),
         SchemaQuestion::SplitWide => split_by_pairs(alloc, schema),
         SchemaQuestion::Exhibit => exhibit_relation(alloc, schema),
+        SchemaQuestion::ExplainImplies { goal } => explain_implication(alloc, schema, goal),
         SchemaQuestion::ExplainCover => explain_cover(alloc, schema),
         SchemaQuestion::ExplainKeys => explain_keys(alloc, schema),
         SchemaQuestion::ExplainSynthesize => explain_synthesis(alloc, schema),
@@ -99,6 +103,28 @@ pub fn answer_plan(
             script_migration_by_plan(alloc, schema, plan, names, name)
         }
         PlanQuestion::Draw => draw_plan(alloc, schema, plan, names),
+    }
+}
+
+/// Answers what is asked of the schemas of two files.
+#[tactic(auto, unfolding(crate::specs::Performs::AnswersPair))]
+pub fn answer_pair(
+    alloc: Global,
+    schema: &Schema,
+    other: &Schema,
+    file: &Argument,
+    other_file: &Argument,
+    question: PairQuestion,
+) -> Result<Response, EarlyExit>
+    ensures response { RespondsAs
+        (AnswersPair schema.now other.now file.now other_file.now (pair_question question)) result }
+{
+    match question {
+        PairQuestion::CheckSame => check_same(alloc, schema, other, file, other_file),
+        PairQuestion::CheckCover => check_cover(alloc, schema, other, file, other_file),
+        PairQuestion::CheckCoverCanonical => {
+            check_canonical_cover(alloc, schema, other, file, other_file)
+        }
     }
 }
 

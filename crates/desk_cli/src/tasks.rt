@@ -3,10 +3,9 @@
 //! a plan in `pages`; no function elsewhere in this crate reads a file.
 
 ghost use Rattle.std.specs.Prelude.{◌≡◌, ◌≤◌, ◌∷◌, []};
-ghost use Rattle.desk_words.specs.Commands.{plan_question, rows_question, rules_question, task_form};
+ghost use Rattle.desk_words.specs.Commands.{pair_question, plan_question, rows_question, rules_question, task_form};
 ghost use Rattle.table_join.specs.Tables.{tables_of};
 ghost use Rattle.desk_implication.specs.Certificates.{ChecksProof};
-ghost use Rattle.desk_covers.specs.CoverChecks.{ChecksCover};
 ghost use Rattle.desk_inputs.specs.FileKinds.{WithFile};
 ghost use Rattle.desk_inputs.specs.FilesBegun.{BeginsFront};
 ghost use Rattle.desk_discovery.specs.AllDiscoveries.{FindsAllRules};
@@ -15,20 +14,18 @@ ghost use Rattle.desk_implication.specs.Derivations.{ChecksDerivation};
 ghost use Rattle.desk_inputs.specs.Inputs.{derivation_file, proof_file, schema_file};
 ghost use Rattle.desk_inputs.specs.Parts.{WithParts};
 ghost use Rattle.desk_cli.specs.FilesRead.{files_of_task};
-ghost use Rattle.desk_cli.specs.Performs.{AnswersPlan, AnswersRows, AnswersRules, Does, WithValues};
+ghost use Rattle.desk_cli.specs.Performs.{AnswersPair, AnswersPlan, AnswersRows, AnswersRules, Does, WithValues};
 ghost use Rattle.desk_measures.specs.Measures.{MeasuresRows};
 ghost use Rattle.desk_inputs.specs.Plans.{plan_file};
 ghost use Rattle.desk_inputs.specs.Readings.{Reading, Shows};
 ghost use Rattle.desk_tables.specs.Rejoining.{JoinsTables};
 ghost use Rattle.desk_responses.specs.Responses.{RespondsAs};
 ghost use Rattle.desk_inputs.specs.Rows.{rows_file};
-ghost use Rattle.desk_covers.specs.Sameness.{ChecksSame};
 
 use crate::migrations::{of_plan_and_rows, of_plan_and_rows_into, of_rows_in_form, of_rows_into};
 use crate::pages::of_page_and_plan;
-use crate::questions::{answer_plan, answer_rows, answer_rules, answer_schema};
+use crate::questions::{answer_pair, answer_plan, answer_rows, answer_rules, answer_schema};
 use arguments::Argument;
-use desk_covers::{check_cover, check_same};
 use desk_discovery::discover_all_rules;
 use desk_implication::{check_derivation, check_proof};
 use desk_inputs::{
@@ -40,7 +37,7 @@ use desk_outside::FileSource;
 use desk_reports::report_schema;
 use desk_responses::{EarlyExit, Response};
 use desk_tables::rejoin;
-use desk_words::{MOST_FILES, PlanQuestion, RowsQuestion, RulesQuestion, Task};
+use desk_words::{MOST_FILES, PairQuestion, PlanQuestion, RowsQuestion, RulesQuestion, Task};
 use own_folder::FolderMaker;
 use row_store::Hashing;
 use schema_model::Schema;
@@ -110,8 +107,11 @@ fn perform_task<F: FileSource, M: FolderMaker>(
         }
         Task::CheckProof { file, goal } => of_proof(alloc, source, schema, file, goal),
         Task::CheckDerivation { file, goal } => of_derivation(alloc, source, schema, file, goal),
-        Task::CheckSame { file, other } => of_schemas(alloc, source, schema, file, other),
-        Task::CheckCover { file, other } => of_cover(alloc, source, schema, file, other),
+        Task::OfPair {
+            file,
+            other,
+            question,
+        } => of_schemas(alloc, source, schema, file, other, question),
         Task::Rejoin { files } => of_parts(alloc, hashing, source, schema, files),
         Task::Report { file } => report_schema(alloc, schema, file),
         Task::ReportPlan { file, plan } => of_page_and_plan(alloc, source, schema, file, plan),
@@ -214,7 +214,7 @@ fn of_proof<F: FileSource>(
     check_proof(alloc, schema, read.dep, goal)
 }
 
-// Whether the derivation of a file ends with a goal.
+// Whether the derivation of a file ends with a goal, and what is wrong with its lines.
 fn of_derivation<F: FileSource>(
     alloc: Global,
     source: &mut F,
@@ -228,22 +228,23 @@ fn of_derivation<F: FileSource>(
         (F.begun source.old) (F.begun source.new) }
     ensures response { (r : Reading) → Shows F.files F.faults F.taken F.begun source.old source.new r
         → RespondsAs (WithFile (derivation_file schema.now) r file.now
-        (λ derived. ChecksDerivation schema.now derived goal.now)) result }
+        (λ lines. ChecksDerivation schema.now lines goal.now)) result }
 {
-    let derived = match open_derivation(alloc, source, schema, file) {
-        Ok(derived) => derived,
+    let lines = match open_derivation(alloc, source, schema, file) {
+        Ok(lines) => lines,
         Err(exit) => return Err(exit),
     };
-    check_derivation(alloc, schema, derived, goal)
+    check_derivation(alloc, schema, &lines, goal)
 }
 
-// Whether the schema of a file says the same as that of another.
+// Answers what is asked of a schema and that of another file.
 fn of_schemas<F: FileSource>(
     alloc: Global,
     source: &mut F,
     schema: &Schema,
     file: &Argument,
     other_file: &Argument,
+    question: PairQuestion,
 ) -> Result<Response, EarlyExit>
     ensures files { F.files source.new ≡ F.files source.old }
     ensures later { F.faults source.old ≤ F.faults source.new }
@@ -251,36 +252,13 @@ fn of_schemas<F: FileSource>(
         (F.begun source.old) (F.begun source.new) }
     ensures response { (r : Reading) → Shows F.files F.faults F.taken F.begun source.old source.new r
         → RespondsAs (WithFile schema_file r other_file.now
-        (λ other. ChecksSame schema.now other file.now other_file.now)) result }
+        (λ other. AnswersPair schema.now other file.now other_file.now (pair_question question))) result }
 {
     let other = match open_schema(alloc, source, other_file) {
         Ok(other) => other,
         Err(exit) => return Err(exit),
     };
-    check_same(alloc, schema, &other, file, other_file)
-}
-
-// Whether the schema of a file is a minimal cover of another.
-fn of_cover<F: FileSource>(
-    alloc: Global,
-    source: &mut F,
-    schema: &Schema,
-    file: &Argument,
-    other_file: &Argument,
-) -> Result<Response, EarlyExit>
-    ensures files { F.files source.new ≡ F.files source.old }
-    ensures later { F.faults source.old ≤ F.faults source.new }
-    ensures reads { BeginsFront (other_file.now ∷ [])
-        (F.begun source.old) (F.begun source.new) }
-    ensures response { (r : Reading) → Shows F.files F.faults F.taken F.begun source.old source.new r
-        → RespondsAs (WithFile schema_file r other_file.now
-        (λ other. ChecksCover schema.now other file.now other_file.now)) result }
-{
-    let other = match open_schema(alloc, source, other_file) {
-        Ok(other) => other,
-        Err(exit) => return Err(exit),
-    };
-    check_cover(alloc, schema, &other, file, other_file)
+    answer_pair(alloc, schema, &other, file, other_file, question)
 }
 
 // The natural join of the tables of files.

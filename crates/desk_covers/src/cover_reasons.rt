@@ -2,13 +2,14 @@ ghost use Rattle.std.specs.Prelude.{◌≡◌, ◌++◌, ◌<◌, [], if◌then�
 ghost use Rattle.attr_sets.specs.Attributes.{difference};
 ghost use Rattle.attr_sets.specs.Sets.{attributes};
 ghost use Rattle.attr_sets.specs.declared.set.TheConstants.{MOST_ATTRIBUTES};
-ghost use Rattle.cover_accounts.specs.Steps.{place_of, places_of, shortened_list, shortened_of};
-ghost use Rattle.desk_covers.specs.CoverReasons.{ExplainsCover, all_gone_text, gone_text, member_before, member_text, members_text, needless_text, placed_text};
+ghost use Rattle.cover_accounts.specs.Steps.{AreCoverSteps, place_of, places_of, shortened_list, shortened_of};
+ghost use Rattle.schema_model.specs.Schemas.{width_of, theory_of};
+ghost use Rattle.desk_covers.specs.CoverReasons.{AreCoverReasons, ExplainsCover, all_gone_text, gone_text, member_before, member_text, members_text, needless_text, placed_text};
 ghost use Rattle.desk_responses.specs.Responses.{response_value, RespondsAs};
 
 use attr_sets::AttrSet;
 use byte_texts::add;
-use cover_accounts::{PlacedDep, ShortMember, cover_steps};
+use cover_accounts::{CoverSteps, PlacedDep, ShortMember, cover_steps};
 use dep_model::{Dep, OutOfMemory};
 use desk_responses::{EarlyExit, Response, Status, put_line};
 use schema_model::Schema;
@@ -27,13 +28,26 @@ fn explained_cover(alloc: Global, schema: &Schema) -> Result<Response, OutOfMemo
     ensures response { IfOk result (λ response. ExplainsCover schema.now (response_value response)) }
 {
     let steps = cover_steps(alloc, &schema.theory())?;
-    let mut text = print_reasons(alloc, schema, &steps.members, &steps.gone)?;
+    let mut text = print_cover_reasons(alloc, schema, &steps)?;
     let plain = print_deps(alloc, schema, &steps.whole)?;
     add(&mut text, &plain)?;
     Ok(Response::with_text(Status::Yes, text))
 }
 
-// How the cover comes about.
+/// How the cover comes about, as text.
+pub fn print_cover_reasons(
+    alloc: Global,
+    schema: &Schema,
+    steps: &CoverSteps,
+) -> Result<Vec<u8>, OutOfMemory>
+    requires steps { AreCoverSteps (width_of schema.now) (theory_of schema.now)
+        (shortened_list steps.now.members.items) (places_of steps.now.gone.items) }
+    ensures reasons { IfOk result (λ text. AreCoverReasons schema.now text.items) }
+{
+    let text = print_reasons(alloc, schema, &steps.members, &steps.gone)?;
+    Ok(text)
+}
+
 fn print_reasons(
     alloc: Global,
     schema: &Schema,

@@ -1,7 +1,8 @@
 ghost use Rattle.std.specs.Prelude.{IfOk};
-ghost use Rattle.desk_covers.specs.Covering.{GivesCover};
+ghost use Rattle.desk_covers.specs.Covering.{GivesCanonicalCover, GivesCover};
 ghost use Rattle.desk_responses.specs.Responses.{response_value, RespondsAs};
 
+use canonical_cover::canonical_cover;
 use dep_model::OutOfMemory;
 use desk_responses::{EarlyExit, Response, Status};
 use min_cover::whole_cover;
@@ -22,4 +23,19 @@ fn cover_response(alloc: Global, schema: &Schema) -> Result<Response, OutOfMemor
 {
     let whole = whole_cover(alloc, &schema.theory())?;
     Ok(Response::with_text(Status::Yes, print_deps(alloc, schema, &whole)?))
+}
+
+/// The same cover, in which the functional dependencies of one left side stand as one.
+pub fn cover_canonically(alloc: Global, schema: &Schema) -> Result<Response, EarlyExit>
+    ensures response { RespondsAs (GivesCanonicalCover schema.now) result }
+{
+    Ok(canonical_response(alloc, schema)?)
+}
+
+fn canonical_response(alloc: Global, schema: &Schema) -> Result<Response, OutOfMemory>
+    ensures response { IfOk result
+        (λ response. GivesCanonicalCover schema.now (response_value response)) }
+{
+    let cover = canonical_cover(alloc, &schema.theory())?;
+    Ok(Response::with_text(Status::Yes, print_deps(alloc, schema, &cover)?))
 }

@@ -1,4 +1,5 @@
-//! The answers about schemas that say the same: whether two do, and the cover of one.
+//! The answers about schemas that say the same: whether two do, the covers of one, minimal and canonical,
+//! and whether another is such a cover.
 //!
 //! Each is a pure function of values.
 //!
@@ -10,7 +11,7 @@ mod cover_reasons;
 mod covers;
 mod sameness;
 
-pub use cover_checks::check_cover;
-pub use cover_reasons::explain_cover;
-pub use covers::cover;
+pub use cover_checks::{check_canonical_cover, check_cover};
+pub use cover_reasons::{explain_cover, print_cover_reasons};
+pub use covers::{cover, cover_canonically};
 pub use sameness::check_same;

@@ -8,3 +8,4 @@ mod ShownLosses
 mod ShownFirst
 mod TestedLemmas
 pub mod StatusLemmas
+pub mod ReasonLemmas

@@ -16,7 +16,7 @@ use Rattle.desk_responses.specs.ResponseValues.{Allowed, With}
 use Rattle.desk_designs.specs.Decompositions.{IsSplitInForm, ShowsPlan, SplitStops}
 use Rattle.desk_designs.specs.NormalForms.{form_word, violation_of}
 use Rattle.desk_designs.specs.LeftOut.{left_out_text}
-use Rattle.desk_designs.specs.SynthesisReasons.{ExplainsSynthesis}
+use Rattle.desk_designs.specs.SynthesisReasons.{AreSynthesisReasons, ExplainsSynthesis}
 use Rattle.desk_texts.specs.Texts.{line}
 
 -- a scheme, and what violates the form on it
@@ -52,6 +52,12 @@ abbrev pub ExplainsCuts : Schema → Form → Allowed
 ExplainsCuts schema form =
     Explained (AreSplitReasons schema form)
     (With (SplitStops schema form) (IsSplitInForm schema form) (ShowsPlan schema))
+
+-- how the plan of a normal form comes about
+abbrev pub AreReasonsInForm : Schema → Form → List ℕ → Type 0
+AreReasonsInForm schema Third text = AreSynthesisReasons schema text
+AreReasonsInForm schema Bcnf text = AreSplitReasons schema Bcnf text
+AreReasonsInForm schema Fourth text = AreSplitReasons schema Fourth text
 
 -- the plan of a normal form, below how it comes about: third form is had by synthesis
 abbrev pub ExplainsSplit : Schema → Form → Allowed

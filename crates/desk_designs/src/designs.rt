@@ -1,16 +1,19 @@
-ghost use Rattle.std.specs.Prelude.{◌≤◌, length, IfOk};
+ghost use Rattle.std.specs.Prelude.{List, ◌≤◌, length, IfOk};
+ghost use Rattle.attr_sets.specs.declared.set.AttrSet.{AttrSet};
+ghost use Rattle.dep_model.specs.Plans.{schemes_of};
 ghost use Rattle.dep_model.specs.Projections.{Covers};
 ghost use Rattle.schema_model.specs.Schemas.{width_of, theory_in};
 ghost use Rattle.plans.specs.Plans.{IsPlanOver, plan_of, scheme_sets};
 ghost use Rattle.ddl_text.specs.Ddl.{ddl_text};
-ghost use Rattle.desk_designs.specs.Designs.{IsSoundDesign, WritesForm, WritesPlan};
+ghost use Rattle.table_names.specs.TableNames.{GivenNames};
+ghost use Rattle.desk_designs.specs.Designs.{IsSoundDesign, WithoutMissing, WritesForm, WritesPlan, WritesTables};
 ghost use Rattle.desk_responses.specs.ResponseValues.{Says};
 ghost use Rattle.desk_responses.specs.Responses.{response_value, RespondsAs};
 ghost use Rattle.desk_responses.specs.declared.status.Status.TheVariants.{Yes};
 
 use crate::decomposition::plan_in_form;
 use crate::join::test_loss;
-use crate::missing::required_design;
+use crate::missing::{required_design, test_design};
 use ddl_text::{DesignList, design, print_ddl};
 use dep_model::{Form, OutOfMemory};
 use design_order::in_design_order;
@@ -28,11 +31,25 @@ pub fn write_form(alloc: Global, schema: &Schema, form: Form) -> Result<Response
         Ok(plan) => plan,
         Err(exit) => return Err(exit),
     };
-    let tables = match required_design(alloc, schema, &plan, &[]) {
-        Ok(tables) => tables,
-        Err(exit) => return Err(exit),
-    };
-    Ok(tables_response(alloc, schema, &tables)?)
+    let tables = design_of_plan(alloc, schema, &plan, &[])?;
+    write_tables(alloc, schema, &tables)
+}
+
+/// The statements that create the tables of a design, where no value of a key may be missing and none of an attribute
+/// of two tables.
+pub fn write_tables(
+    alloc: Global,
+    schema: &Schema,
+    tables: &DesignList,
+) -> Result<Response, EarlyExit>
+    ensures response { (names : GivenNames) (plan : List AttrSet) → IsSoundDesign schema.now names plan tables.now
+        → RespondsAs (WithoutMissing schema.now names (schemes_of plan) (WritesTables schema.now names plan))
+        result }
+{
+    match test_design(alloc, schema, tables) {
+        Ok(()) => Ok(tables_response(alloc, schema, tables)?),
+        Err(exit) => Err(exit),
+    }
 }
 
 /// The statements that create the tables of a plan, where it loses nothing; the names of its tables come in the

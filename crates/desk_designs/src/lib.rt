@@ -9,6 +9,7 @@
 mod decomposition;
 mod designs;
 mod drawings;
+mod explained;
 mod fewest;
 mod fewest_reasons;
 mod form;
@@ -24,8 +25,9 @@ mod synthesis_reasons;
 pub use decomposition::{
     MOST_SPLIT_SCHEMES, plan_in_form, split_by_pairs, split_exit, split_in_form,
 };
-pub use designs::{design_of_plan, write_form, write_plan};
+pub use designs::{design_of_plan, write_form, write_plan, write_tables};
 pub use drawings::{draw_form, draw_plan};
+pub use explained::{ExplainedPlan, explained_plan, print_explained};
 pub use fewest::synthesize_fewest;
 pub use fewest_reasons::explain_fewest;
 pub use form::{check_form, tested_dependency, violation_dependency, word_of, word_of_tested};

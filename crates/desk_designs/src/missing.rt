@@ -1,12 +1,15 @@
 //! Whether values that may be missing keep a plan from being tables.
 
-ghost use Rattle.std.specs.Prelude.{length, IfOk, IfErr};
+ghost use Rattle.std.specs.Prelude.{List, length, IfOk, IfErr};
+ghost use Rattle.attr_sets.specs.declared.set.AttrSet.{AttrSet};
+ghost use Rattle.dep_model.specs.Plans.{schemes_of};
 ghost use Rattle.schema_model.specs.Schemas.{nullable_of, width_of, theory_in};
 ghost use Rattle.plans.specs.Plans.{IsPlanOver, plan_of, scheme_sets};
 ghost use Rattle.desk_designs.specs.Designs.{AreNeverMissing, IsSoundDesign, MissingStops};
 ghost use Rattle.desk_responses.specs.ResponseValues.{Says};
 ghost use Rattle.desk_responses.specs.Responses.{ExitsAs};
 ghost use Rattle.desk_responses.specs.declared.status.Status.TheVariants.{Refused};
+ghost use Rattle.table_names.specs.TableNames.{GivenNames};
 ghost use Rattle.missing_values.specs.Missing.{NeverMissing};
 ghost use Rattle.missing_values.specs.Refusals.{IsWithin, refusal_text};
 
@@ -49,9 +52,21 @@ pub fn required_design(
     ensures exit { IfErr result (ExitsAs (MissingStops schema.now names.now (plan_of plan.now))) }
 {
     let tables = design_of_plan(alloc, schema, plan, names)?;
+    match test_design(alloc, schema, &tables) {
+        Ok(()) => Ok(tables),
+        Err(exit) => Err(exit),
+    }
+}
+
+// Tests that no value of a key of the tables of a design may be missing, and none of an attribute of two.
+pub fn test_design(alloc: Global, schema: &Schema, tables: &DesignList) -> Result<(), EarlyExit>
+    ensures never_missing { IfOk result (λ _. NeverMissing (nullable_of schema.now) tables.now) }
+    ensures exit { (names : GivenNames) (plan : List AttrSet) → IsSoundDesign schema.now names plan tables.now
+        → IfErr result (ExitsAs (MissingStops schema.now names (schemes_of plan))) }
+{
     match missing_refusal(schema, tables.tables()) {
-        None => Ok(tables),
-        Some(refusal) => Err(missing_exit(alloc, schema, &tables, refusal)),
+        None => Ok(()),
+        Some(refusal) => Err(missing_exit(alloc, schema, tables, refusal)),
     }
 }
 

@@ -1,25 +1,27 @@
-ghost use Rattle.std.specs.Prelude.{◌≡◌, ◌++◌, IfOk, OnOk};
+ghost use Rattle.std.specs.Prelude.{◌≡◌, ◌++◌, IfErr, IfOk, OnOk};
 ghost use Rattle.std.specs.List.{flat_map};
 ghost use Rattle.attr_sets.specs.Sets.{attributes};
 ghost use Rattle.dep_model.specs.Plans.{schemes_of};
-ghost use Rattle.schema_model.specs.Schemas.{width_of, theory_of};
+ghost use Rattle.schema_model.specs.Schemas.{width_of, theory_of, theory_in};
 ghost use Rattle.dep_model.specs.declared.form.Form.TheVariants as forms;
 ghost use Rattle.plans.specs.Containing.{without_contained};
+ghost use Rattle.plans.specs.Plans.{IsPlanOver, scheme_sets};
 ghost use Rattle.schema_printer.specs.Spelling.{printed_names_of};
 ghost use Rattle.split_forms.specs.Refusals.{IsWithinLimits};
 ghost use Rattle.split_forms.specs.Steps.{AreSplitSteps, cutting_of, cuttings_of};
 ghost use Rattle.desk_designs.specs.declared.decomposition.TheConstants.{MOST_SPLIT_SCHEMES};
-ghost use Rattle.desk_responses.specs.Responses.{response_value, RespondsAs};
-ghost use Rattle.desk_designs.specs.SplitReasons.{ExplainsCuts, ExplainsSplit, breach_text, cut_text, pair_text, parts_text, split_text};
+ghost use Rattle.desk_responses.specs.Responses.{ExitsAs, RespondsAs};
+ghost use Rattle.desk_designs.specs.Decompositions.{IsSplitInForm, SplitStops};
+ghost use Rattle.desk_designs.specs.SplitReasons.{AreSplitReasons, ExplainsCuts, ExplainsSplit, breach_text, cut_text, pair_text, parts_text, split_text};
 
+use crate::explained::{ExplainedPlan, explained_response};
 use crate::left_out::put_left_out;
 use crate::synthesis_reasons::explain_synthesis;
 use crate::{MOST_SPLIT_SCHEMES, split_exit, violation_dependency, word_of};
 use attr_sets::AttrSet;
 use byte_texts::add;
 use dep_model::{Failure, Form, OutOfMemory};
-use desk_responses::{EarlyExit, Response, Status};
-use plan_printer::print_plan;
+use desk_responses::{EarlyExit, Response};
 use schema_model::Schema;
 use schema_printer::{add_dep, add_set};
 use split_forms::{SchemeCut, SplitSteps, plan_of_steps, split_steps};
@@ -42,28 +44,50 @@ fn explain_cuts(alloc: Global, schema: &Schema, form: Form) -> Result<Response, 
     requires form { form ≡ forms.Third → ⊥ }
     ensures response { RespondsAs (ExplainsCuts schema.now form) result }
 {
+    match explained_split(alloc, schema, form) {
+        Ok(found) => Ok(explained_response(alloc, schema, &found)?),
+        Err(exit) => Err(exit),
+    }
+}
+
+/// The plan of Boyce-Codd or fourth normal form, with the cuts that lead to it.
+pub fn explained_split(
+    alloc: Global,
+    schema: &Schema,
+    form: Form,
+) -> Result<ExplainedPlan, EarlyExit>
+    requires form { form ≡ forms.Third → ⊥ }
+    ensures split { IfOk result (λ found. IsSplitInForm schema.now form (scheme_sets found.plan)) }
+    ensures universe { IfOk result (λ found. IsPlanOver (theory_in schema.now) found.plan) }
+    ensures reasons { IfOk result (λ found. AreSplitReasons schema.now form found.reasons.items) }
+    ensures exit { IfErr result (ExitsAs (SplitStops schema.now form)) }
+{
     match split_steps(alloc, &schema.theory(), form, MOST_SPLIT_SCHEMES) {
-        Ok(steps) => Ok(explained_cuts(alloc, schema, &steps)?),
+        Ok(steps) => Ok(split_with_reasons(alloc, schema, &steps)?),
         Err(Failure::Refused(refusal)) => Err(split_exit(alloc, schema, refusal)),
         Err(Failure::OutOfMemory) => Err(EarlyExit::OutOfMemory),
     }
 }
 
-fn explained_cuts(
+// The plan that the steps of a split lead to, with how it comes about.
+fn split_with_reasons(
     alloc: Global,
     schema: &Schema,
     steps: &SplitSteps,
-) -> Result<Response, OutOfMemory>
+) -> Result<ExplainedPlan, OutOfMemory>
     requires form { steps.now.form ≡ forms.Third → ⊥ }
     requires steps { AreSplitSteps (width_of schema.now) (theory_of schema.now) steps.now.form
         (cuttings_of steps.now.cuts.items) (schemes_of steps.now.schemes.items) }
     requires within_limits { IsWithinLimits (width_of schema.now) (theory_of schema.now) steps.now.form
         MOST_SPLIT_SCHEMES }
-    ensures response { IfOk result
-        (λ response. ExplainsCuts schema.now steps.now.form (response_value response)) }
+    ensures split { IfOk result
+        (λ found. IsSplitInForm schema.now steps.now.form (scheme_sets found.plan)) }
+    ensures universe { IfOk result (λ found. IsPlanOver (theory_in schema.now) found.plan) }
+    ensures reasons { IfOk result
+        (λ found. AreSplitReasons schema.now steps.now.form found.reasons.items) }
 {
     let plan = plan_of_steps(alloc, &schema.theory(), steps)?;
-    let mut text = print_reasons(
+    let reasons = print_reasons(
         alloc,
         schema,
         steps.form,
@@ -71,9 +95,7 @@ fn explained_cuts(
         &steps.schemes,
         plan.schemes(),
     )?;
-    let plain = print_plan(alloc, schema, &plan)?;
-    add(&mut text, &plain)?;
-    Ok(Response::with_text(Status::Yes, text))
+    Ok(ExplainedPlan { plan, reasons })
 }
 
 // How the split comes about.

@@ -1,24 +1,33 @@
-ghost use Rattle.std.specs.Prelude.{◌≡◌, ◌++◌, drop, length, IfOk, OnOk};
+ghost use Rattle.std.specs.Prelude.{◌≡◌, [], ◌++◌, All, drop, length, IfOk, OnOk};
 ghost use Rattle.std.specs.List.{flat_map};
 ghost use Rattle.attr_sets.specs.Sets.{attributes};
-ghost use Rattle.dep_model.specs.Deps.{dependency_of, dependencies_of};
+ghost use Rattle.dep_model.specs.Dependencies.{functional_part};
+ghost use Rattle.dep_model.specs.Deps.{dependency_of, dependencies_of, IsDepWithin};
 ghost use Rattle.dep_model.specs.Plans.{schemes_of};
+ghost use Rattle.min_cover.specs.Covers.{IsFixedWholeCover, IsMinimalCover};
 ghost use Rattle.plans.specs.Containing.{without_contained};
+ghost use Rattle.plans.specs.Plans.{IsPlanOver, scheme_sets};
+ghost use Rattle.schema_model.specs.Schemas.{nullable_of, width_of, theory_of, theory_in, universe_of};
 ghost use Rattle.schema_printer.specs.Spelling.{printed_names_of};
 ghost use Rattle.desk_responses.specs.Responses.{response_value, RespondsAs};
 ghost use Rattle.desk_designs.specs.LeftOut.{left_out_text};
-ghost use Rattle.desk_designs.specs.SynthesisReasons.{ExplainsSynthesis, cover_text, group_text, key_text, member_text};
+ghost use Rattle.synthesis_3nf.specs.GroupedPlans.{AreSynthesisSteps};
+ghost use Rattle.synthesis_3nf.specs.Groups.{left_sides_after};
+ghost use Rattle.desk_designs.specs.Synthesis.{IsThirdFormPlan};
+ghost use Rattle.desk_designs.specs.SynthesisReasons.{AreSynthesisReasons, ExplainsSynthesis, cover_text, group_text, key_text, member_text};
 
+use crate::explained::{ExplainedPlan, explained_response};
 use crate::left_out::put_left_out;
 use attr_sets::AttrSet;
 use byte_texts::add;
 use dep_model::{Dep, OutOfMemory};
-use desk_responses::{EarlyExit, Response, Status};
-use plan_printer::print_plan;
+use desk_responses::{EarlyExit, Response};
 use schema_model::Schema;
 use schema_printer::{add_dep, add_set};
 use std::alloc::Global;
-use synthesis_3nf::{group_scheme, plan_of_steps, synthesis_steps};
+use synthesis_3nf::{
+    SynthesisSteps, group_scheme, plan_of_steps, steps_of_whole_cover, synthesis_steps,
+};
 
 /// A plan in third normal form, below how it comes about: the cover, the schemes of its left sides, which
 /// of them are left out, and the key that is added.
@@ -31,10 +40,49 @@ pub fn explain_synthesis(alloc: Global, schema: &Schema) -> Result<Response, Ear
 fn explained_synthesis(alloc: Global, schema: &Schema) -> Result<Response, OutOfMemory>
     ensures response { IfOk result (λ response. ExplainsSynthesis schema.now (response_value response)) }
 {
-    let theory = schema.theory();
-    let steps = synthesis_steps(alloc, &theory, schema.nullable())?;
-    let plan = plan_of_steps(alloc, &theory, &steps)?;
-    let mut text = print_reasons(
+    let steps = synthesis_steps(alloc, &schema.theory(), schema.nullable())?;
+    let found = synthesis_with_reasons(alloc, schema, &steps)?;
+    explained_response(alloc, schema, &found)
+}
+
+/// A plan in third normal form that is made of the whole cover of a schema, with how it comes about.
+pub fn explained_third_form(
+    alloc: Global,
+    schema: &Schema,
+    whole: &[Dep],
+) -> Result<ExplainedPlan, OutOfMemory>
+    requires fixed { IsFixedWholeCover (width_of schema.now) (theory_of schema.now)
+        (dependencies_of whole.now) }
+    requires minimal { IsMinimalCover (width_of schema.now) (theory_of schema.now)
+        (functional_part (dependencies_of whole.now)) }
+    requires within { All (IsDepWithin (universe_of schema.now)) whole.now }
+    ensures third { IfOk result (λ found. IsThirdFormPlan schema.now (scheme_sets found.plan)) }
+    ensures universe { IfOk result (λ found. IsPlanOver (theory_in schema.now) found.plan) }
+    ensures reasons { IfOk result (λ found. AreSynthesisReasons schema.now found.reasons.items) }
+{
+    let steps = steps_of_whole_cover(alloc, &schema.theory(), schema.nullable(), whole)?;
+    synthesis_with_reasons(alloc, schema, &steps)
+}
+
+// The plan that the steps of a synthesis lead to, with how it comes about.
+fn synthesis_with_reasons(
+    alloc: Global,
+    schema: &Schema,
+    steps: &SynthesisSteps,
+) -> Result<ExplainedPlan, OutOfMemory>
+    requires steps { AreSynthesisSteps (width_of schema.now) (theory_of schema.now) (nullable_of schema.now)
+        (dependencies_of steps.now.cover.items) (schemes_of steps.now.schemes.items) }
+    requires lefts { schemes_of steps.now.lefts.items
+        ≡ left_sides_after [] (dependencies_of steps.now.cover.items) }
+    requires minimal { IsMinimalCover (width_of schema.now) (theory_of schema.now)
+        (dependencies_of steps.now.cover.items) }
+    requires within { All (IsDepWithin (universe_of schema.now)) steps.now.cover.items }
+    ensures third { IfOk result (λ found. IsThirdFormPlan schema.now (scheme_sets found.plan)) }
+    ensures universe { IfOk result (λ found. IsPlanOver (theory_in schema.now) found.plan) }
+    ensures reasons { IfOk result (λ found. AreSynthesisReasons schema.now found.reasons.items) }
+{
+    let plan = plan_of_steps(alloc, &schema.theory(), steps)?;
+    let reasons = print_reasons(
         alloc,
         schema,
         &steps.cover,
@@ -42,9 +90,7 @@ fn explained_synthesis(alloc: Global, schema: &Schema) -> Result<Response, OutOf
         &steps.schemes,
         plan.schemes(),
     )?;
-    let plain = print_plan(alloc, schema, &plan)?;
-    add(&mut text, &plain)?;
-    Ok(Response::with_text(Status::Yes, text))
+    Ok(ExplainedPlan { plan, reasons })
 }
 
 // How the plan comes about.

@@ -40,7 +40,7 @@ pub fn implies(alloc: Global, schema: &Schema, goal: &Argument) -> Result<Respon
 }
 
 /// The answer to a goal.
-fn decision_response(alloc: Global, schema: &Schema, dep: Dep) -> Result<Response, OutOfMemory>
+pub fn decision_response(alloc: Global, schema: &Schema, dep: Dep) -> Result<Response, OutOfMemory>
     requires { IsDepWithin (universe_of schema.now) dep }
     ensures response { IfOk result (λ response. Decided schema.now (dependency_of dep)
         (response_value response)) }

@@ -11,7 +11,9 @@ mod certificate;
 mod checking;
 mod closures;
 mod conclusions;
+mod explaining;
 mod implication;
+mod mistakes;
 mod projecting;
 
 pub use bases::give_basis;
@@ -19,5 +21,6 @@ pub use certificate::check_proof;
 pub use checking::check_derivation;
 pub use closures::give_closure;
 pub use conclusions::{checked_line, concludes_lines};
+pub use explaining::explain_implication;
 pub use implication::implies;
 pub use projecting::give_projection;

@@ -1,8 +1,7 @@
 -- The kinds of files that are texts of their own grammars: schemas, certificates and derivations.
-use Rattle.std.specs.Prelude.{codes}
+use Rattle.std.specs.Prelude.{List, codes}
 use Rattle.schema_model.specs.Schemas.{Schema}
 use Rattle.schema_printer.specs.Spelling.{printed_names_of}
-use Rattle.dep_model.specs.Dependencies.{Dependency}
 use Rattle.derivation.specs.Trees.{Tree}
 use Rattle.schema_reader.specs.declared.text.TheConstants.{MOST_TEXT_BYTES}
 use Rattle.schema_grammar.specs.declared.refusal.SchemaRefusal.{SchemaRefusal}
@@ -12,7 +11,8 @@ use Rattle.proof_text.specs.declared.text.TheConstants.{MOST_PROOF_BYTES}
 use Rattle.proof_grammar.specs.Diagnostics.{LineDiagnostic}
 use Rattle.proof_grammar.specs.Spelling.{SpellsWithin}
 use Rattle.proof_grammar.specs.Refusals.{IsRefusedCertificate}
-use Rattle.derivation_grammar.specs.Derivations.{Derives}
+use Rattle.derivation_grammar.specs.Lines.{DerivationLine}
+use Rattle.derivation_grammar.specs.Meanings.{MeansDerivation}
 use Rattle.derivation_grammar.specs.Refusals.{IsRefusedDerivation}
 use Rattle.desk_inputs.specs.FileKinds.{FileKind}
 use Rattle.desk_refusals.specs.ProofTexts.{proof_refusal_text, derivation_refusal_text}
@@ -36,11 +36,11 @@ proof_file schema = record {
   refusal_text = proof_refusal_text (printed_names_of schema);
 }
 
--- derivations over a schema, as what they derive
-abbrev pub derivation_file : Schema → FileKind Dependency LineDiagnostic
+-- derivations over a schema, as their lines
+abbrev pub derivation_file : Schema → FileKind (List DerivationLine) LineDiagnostic
 derivation_file schema = record {
   limit = MOST_PROOF_BYTES;
-  means = Derives schema;
+  means = MeansDerivation schema;
   refuses = IsRefusedDerivation schema;
   refusal_text = derivation_refusal_text (printed_names_of schema);
 }

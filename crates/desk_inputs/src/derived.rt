@@ -1,8 +1,9 @@
 ghost use Rattle.std.specs.Prelude.{◌≡◌, ◌≤◌, ◌∷◌, [], OnOk, IfOk, IfErr};
-ghost use Rattle.dep_model.specs.Deps.{dependency_of, IsDepWithin};
-ghost use Rattle.schema_model.specs.Schemas.{universe_of, ImpliedBy};
+ghost use Rattle.schema_model.specs.Schemas.{universe_of};
 ghost use Rattle.schema_printer.specs.Spelling.{printed_names_of};
 ghost use Rattle.proof_grammar.specs.Diagnostics.{line_diagnostic_of, IsRefusalWithin};
+ghost use Rattle.derivation_grammar.specs.Meanings.{IsDerivation};
+ghost use Rattle.derivation_text.specs.Views.{derivation_lines_of};
 ghost use Rattle.desk_responses.specs.ResponseValues.{Says};
 ghost use Rattle.desk_refusals.specs.ProofTexts.{derivation_refusal_text};
 ghost use Rattle.desk_outside.specs.Begun.{Begins};
@@ -14,8 +15,8 @@ ghost use Rattle.desk_responses.specs.Responses.{ExitsAs};
 
 use crate::read::open_file;
 use arguments::Argument;
-use dep_model::{Dep, Failure};
-use derivation_text::read_derivation;
+use dep_model::Failure;
+use derivation_text::{DerivationLine, read_derivation};
 use desk_outside::FileSource;
 use desk_refusals::derivation_refusal_line;
 use desk_responses::{EarlyExit, Status};
@@ -23,21 +24,22 @@ use proof_text::{MOST_PROOF_BYTES, ProofRefusal};
 use schema_model::Schema;
 use std::alloc::Global;
 
-/// What the derivation of a file derives from a schema.
+/// The lines of the derivation of a file over a schema, whatever their rules give.
 pub fn open_derivation<F: FileSource>(
     alloc: Global,
     source: &mut F,
     schema: &Schema,
     name: &Argument,
-) -> Result<Dep, EarlyExit>
+) -> Result<Vec<DerivationLine>, EarlyExit>
     ensures files { F.files source.new ≡ F.files source.old }
     ensures later { F.faults source.old ≤ F.faults source.new }
     ensures begins { OnOk result (Begins name.now (F.begun source.old) (F.begun source.new)) }
     ensures reads { BeginsFront (name.now ∷ []) (F.begun source.old) (F.begun source.new) }
     ensures ok { (r : Reading) → files_in r ≡ F.files source.old
-        → IfOk result (λ d. IsFile (derivation_file schema.now) r name.now (dependency_of d)) }
-    ensures implied { IfOk result (λ d. ImpliedBy schema.now (dependency_of d)) }
-    ensures within { IfOk result (IsDepWithin (universe_of schema.now)) }
+        → IfOk result
+        (λ lines. IsFile (derivation_file schema.now) r name.now (derivation_lines_of lines.items)) }
+    ensures derivation { IfOk result
+        (λ lines. IsDerivation schema.now (derivation_lines_of lines.items)) }
     ensures exit { (r : Reading) → Shows F.files F.faults F.taken F.begun source.old source.new r
         → IfErr result (ExitsAs (FileStops (derivation_file schema.now) r name.now)) }
 {
@@ -46,7 +48,7 @@ pub fn open_derivation<F: FileSource>(
         Err(exit) => return Err(exit),
     };
     match read_derivation(alloc, schema, &bytes) {
-        Ok(dep) => Ok(dep),
+        Ok(lines) => Ok(lines),
         Err(Failure::Refused(refusal)) => Err(derivation_refusal_exit(
             alloc,
             schema,

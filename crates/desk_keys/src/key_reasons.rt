@@ -38,14 +38,18 @@ fn explained_keys(alloc: Global, schema: &Schema, keys: &[AttrSet]) -> Result<Re
     requires narrow { IsTooWide (theory_in schema.now) → ⊥ }
     ensures response { IfOk result (λ response. ExplainsKeys schema.now (response_value response)) }
 {
-    let mut text = reason_lines(alloc, schema, keys)?;
+    let mut text = print_key_reasons(alloc, schema, keys)?;
     let plain = set_lines(alloc, schema, keys)?;
     add(&mut text, &plain)?;
     Ok(Response::with_text(Status::Yes, text))
 }
 
-// What the keys have in common, and what is in none of them.
-fn reason_lines(alloc: Global, schema: &Schema, keys: &[AttrSet]) -> Result<Vec<u8>, OutOfMemory>
+/// What the keys have in common, and what is in none of them, as text.
+pub fn print_key_reasons(
+    alloc: Global,
+    schema: &Schema,
+    keys: &[AttrSet],
+) -> Result<Vec<u8>, OutOfMemory>
     requires keys { AreAllKeys (width_of schema.now) (theory_of schema.now) (universe_of schema.now)
         keys.now }
     ensures text { IfOk result (λ text. AreKeyReasons schema.now text.items) }

@@ -12,6 +12,6 @@ mod keys;
 mod scheme_keys;
 
 pub use key_checks::check_key;
-pub use key_reasons::explain_keys;
-pub use keys::list_keys;
+pub use key_reasons::{explain_keys, print_key_reasons};
+pub use keys::{keys_exit, list_keys, set_lines};
 pub use scheme_keys::list_keys_of_plan;

@@ -27,6 +27,7 @@ use Rattle.desk_arguments.specs.Goals.{IsGoal, WithGoal}
 use Rattle.desk_cli.specs.Performs.{Answers, Performs, Does, AnswersSchema}
 use Rattle.desk_inputs.specs.Readings.{known_files}
 use Rattle.desk_texts.specs.Texts.{yes_text}
+use Rattle.desk_laws.specs.AcceptedTexts.{PrintedProofIsAccepted}
 use Rattle.desk_laws.proofs.CompleteLaws.{after_goal, after_schema}
 use Rattle.desk_laws.proofs.OneFile.{after_file}
 use Rattle.desk_laws.proofs.OneText.{proof_text_once}
@@ -115,9 +116,7 @@ unfolding form_of form_over_schema after_check schema_and_two Performs Does
 check_answers looks files schema goal file response answered = answered
 
 -- what is printed after yes and kept in a file is accepted for the same schema and goal
-pub printed_accepted : (looks later : Looks) (before after : Files) (schema goal file : List ℕ) (printed : ResponseValue) → Answers looks (known_files before) (codes "implies" ∷ schema ∷ goal ∷ []) printed → printed.status ≡ Yes
-    → bytes_of_file after schema ≡ bytes_of_file before schema → bytes_of_file after file ≡ Some printed.text → length printed.text ≤ MOST_PROOF_BYTES
-    → (response : ResponseValue) → Answers later (known_files after) (codes "check" ∷ codes "proof" ∷ schema ∷ file ∷ goal ∷ []) response → response.status ≡ Yes
-printed_accepted looks later before after schema goal file printed answered says_yes same kept within_limit response again =
+pub printed_accepted : PrintedProofIsAccepted
+printed_accepted schema goal looks later before after file printed response answered says_yes same kept within_limit again =
     let said = yes_there before schema goal printed says_yes (implies_answers looks before schema goal printed answered) in
     again_yes before after schema goal file printed.text response said same kept within_limit (check_answers later after schema goal file response again)

@@ -14,10 +14,10 @@ use Rattle.desk_outside.specs.Files.{Files}
 use Rattle.desk_responses.specs.declared.status.Status.{Status}
 use Rattle.desk_responses.specs.ResponseValues.{ResponseValue, Allowed}
 use Rattle.desk_implication.specs.Certificates.{Checked}
-use Rattle.desk_covers.specs.Covering.{GivesCover}
+use Rattle.desk_covers.specs.Covering.{GivesCanonicalCover, GivesCover}
 use Rattle.desk_cli.specs.Desk.{Desk, FileSourceInCall, SinkInCall}
 use Rattle.desk_delivery.specs.Outcomes.{DestinationsInCall, OwnInCall}
-use Rattle.desk_words.specs.Forms.{form_of, after_check, schema_alone, schema_and_two, no_more_arguments, form_over_schema, after_keys, after_synthesize, schema_and_word, schema_and_plan, schema_and_rows}
+use Rattle.desk_words.specs.Forms.{form_of, after_check, after_cover, schema_and_two, no_more_arguments, form_over_schema, after_keys, after_synthesize, schema_and_word, schema_and_plan, schema_and_rows}
 use Rattle.desk_implication.specs.Implication.{Decided}
 use Rattle.desk_inputs.specs.FileKinds.{IsFile, WithFile}
 use Rattle.desk_inputs.specs.Inputs.{schema_file, proof_file}
@@ -81,7 +81,7 @@ after_goal s goal dep rest response is answered =
     (goal_goes s goal dep response is)
     (λ d also. one_goal (naming_of s) (names_of s) goal d dep also.means is.means) answered
 
-Decided-yes_or_no : (r : Schema) (d : Dependency) (response : ResponseValue) → Decided r d response → IsYesOrNo response.status
+pub Decided-yes_or_no : (r : Schema) (d : Dependency) (response : ResponseValue) → Decided r d response → IsYesOrNo response.status
 Decided-yes_or_no r d response (inl (implied, found)) = inl (ap (λ (a : ResponseValue). a.status) found.4)
 Decided-yes_or_no r d response (inr (broken, found)) = inr (ap (λ (a : ResponseValue). a.status) found.3)
 
@@ -165,15 +165,27 @@ join_answered files name file schema plan held_schema held_plan small looks resp
     (join_asks files name file looks response answered)))
 
 -- ---- schemas alone
-cover_asks : (files : Files) (name : List ℕ) (looks : Looks) (response : ResponseValue)
+pub cover_asks : (files : Files) (name : List ℕ) (looks : Looks) (response : ResponseValue)
     → Answers looks (known_files files) (codes "cover" ∷ name ∷ []) response → WithFile schema_file (known_files files) name GivesCover response
-unfolding form_of form_over_schema schema_alone Performs Does AnswersSchema
+unfolding form_of form_over_schema after_cover Performs Does AnswersSchema
 cover_asks files name looks response answered = answered
 
 pub cover_answered : (files : Files) (name : List ℕ) (schema : Schema) → IsFile schema_file (known_files files) name schema
     → IsAnswered files (codes "cover" ∷ name ∷ [])
 cover_answered files name schema file looks response answered =
     let found = after_schema files name schema GivesCover response file (cover_asks files name looks response answered) in
+    inl (ap (λ (a : ResponseValue). a.status) found.4)
+
+pub canonical_asks : (files : Files) (name : List ℕ) (looks : Looks) (response : ResponseValue)
+    → Answers looks (known_files files) (codes "cover" ∷ codes "canonical" ∷ name ∷ []) response
+    → WithFile schema_file (known_files files) name GivesCanonicalCover response
+unfolding form_of form_over_schema after_cover Performs Does AnswersSchema
+canonical_asks files name looks response answered = answered
+
+pub canonical_answered : (files : Files) (name : List ℕ) (schema : Schema) → IsFile schema_file (known_files files) name schema
+    → IsAnswered files (codes "cover" ∷ codes "canonical" ∷ name ∷ [])
+canonical_answered files name schema file looks response answered =
+    let found = after_schema files name schema GivesCanonicalCover response file (canonical_asks files name looks response answered) in
     inl (ap (λ (a : ResponseValue). a.status) found.4)
 
 synthesize_asks : (files : Files) (name : List ℕ) (looks : Looks) (response : ResponseValue)

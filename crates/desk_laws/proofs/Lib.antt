@@ -1,5 +1,6 @@
 pub mod AcceptedLaws
 pub mod StopLemmas
+mod FileLemmas
 pub mod CompleteLaws
 pub mod TableLaws
 mod FormLaws
@@ -23,7 +24,8 @@ mod OneReferences
 mod ReferenceLaws
 mod OneTask
 mod DerivationLaws
-mod SampleWords
+mod AcceptedDerivations
+mod ConfirmedCovers
 mod NumberedNames
 mod ImportedLaws
 mod OneWords

@@ -1,5 +1,6 @@
 -- What is asked of a schema, with the files after it, has one answer.
 use Rattle.std.proofs.Common.{ℕ, List, [], ◌∷◌, refl, sym, subst, inl, inr}
+use Rattle.cover_accounts.specs.declared.diagnostic.CoverForm.TheVariants.{Canonical, Minimal}
 use Rattle.dep_model.specs.Plans.{IsPlan}
 use Rattle.schema_model.specs.Schemas.{width_of}
 use Rattle.dep_model.specs.Tuples.{Relation}
@@ -8,7 +9,8 @@ use Rattle.plan_printer.specs.NamedPlans.{NamedSchemes}
 use Rattle.desk_outside.specs.Files.{Files}
 use Rattle.plan_laws.proofs.FolderAnswers.{one_form_into, one_plan_into}
 use Rattle.implication_laws.specs.OneAnswer.{AllowsOne}
-use Rattle.implication_laws.proofs.OneAnswer.{one_basis_answer, one_certificate_answer, one_cover_answer, one_exhibit_answer, one_goal_stop, one_keys_answer, one_same_answer}
+use Rattle.implication_laws.proofs.OneAnswer.{one_basis_answer, one_canonical_answer, one_certificate_answer, one_cover_answer, one_exhibit_answer, one_goal_stop, one_keys_answer, one_same_answer}
+use Rattle.implication_laws.proofs.ExplainedGoals.{explained_twice}
 use Rattle.implication_laws.proofs.OneDerivation.{one_derivation_answer}
 use Rattle.implication_laws.proofs.OneDecision.{one_decision}
 use Rattle.implication_laws.proofs.OneProjection.{one_projection_answer}
@@ -27,13 +29,12 @@ use Rattle.plan_laws.proofs.ReasonAnswers.{one_explained_split, one_explained_sy
 use Rattle.plan_laws.proofs.RowAnswers.{one_rejoined, one_rows_answer}
 use Rattle.plan_laws.proofs.SplitAnswers.{one_split_answer, one_wide_split_answer}
 use Rattle.plan_laws.proofs.UniqueLaws.{one_form, one_join, one_keeping}
-use Rattle.desk_cli.specs.Performs.{AnswersPlan, AnswersRows, AnswersSchema, Does, WithValues}
+use Rattle.desk_cli.specs.Performs.{AnswersPair, AnswersPlan, AnswersRows, AnswersSchema, Does, WithValues}
 use Rattle.desk_measures.specs.Measures.{MeasuresRows}
 use Rattle.desk_implication.specs.Certificates.{ChecksProof}
 use Rattle.desk_implication.specs.Derivations.{ChecksDerivation}
-use Rattle.desk_covers.specs.CoverChecks.{ChecksCover}
+use Rattle.desk_implication.specs.Explanations.{ExplainsImplication}
 use Rattle.desk_implication.specs.Implication.{DecidesGoal}
-use Rattle.desk_covers.specs.Sameness.{ChecksSame}
 use Rattle.desk_inputs.specs.FileKinds.{WithFile}
 use Rattle.desk_inputs.specs.Inputs.{derivation_file, proof_file, schema_file}
 use Rattle.desk_inputs.specs.Readings.{known_files}
@@ -49,7 +50,7 @@ use Rattle.desk_tables.specs.Overwriting.{MigratesHere, MigratesPlanHere}
 use Rattle.desk_tables.specs.OwnFolders.{HasOneLook, Looks, MigratesInto, MigratesPlanInto}
 use Rattle.desk_tables.specs.Rejoining.{JoinsTables}
 use Rattle.desk_words.specs.Forms as form
-use Rattle.desk_words.specs.Forms.{PlanQuestion, RowsQuestion, SchemaQuestion, Task}
+use Rattle.desk_words.specs.Forms.{PairQuestion, PlanQuestion, RowsQuestion, SchemaQuestion, Task}
 
 -- ---- goals
 two_goals : (s : Schema) (goal : List ℕ) (one other : ResponseValue) → DecidesGoal s goal one
@@ -68,16 +69,27 @@ two_goals s goal one other (inr (d, is, inl (implied, (proof, proves, chain, dir
     (inr (e, also, inl (implied', (proof', proves', chain', direct', says')))) =
     inr (inl (record {
       goal = goal;
-      asks = refl;
-      dependency = d;
-      means = is;
-      implied = implied;
-      one_says_yes = says-status Yes _ one says;
-      other_says_yes = says-status Yes _ other says';
-      fixed = λ fixed. one_decision s goal d one other is (λ yes. fixed)
-          (inr (d, is, inl (implied, (proof, proves, chain, direct, says))))
-          (inr (e, also, inl (implied', (proof', proves', chain', direct', says'))));
+      both = record {
+        dependency = d;
+        means = is;
+        implied = implied;
+        one_says_yes = says-status Yes _ one says;
+        other_says_yes = says-status Yes _ other says';
+      };
+      asks = inl (
+        refl,
+        λ fixed. one_decision s goal d one other is (λ yes. fixed)
+            (inr (d, is, inl (implied, (proof, proves, chain, direct, says))))
+            (inr (e, also, inl (implied', (proof', proves', chain', direct', says')))),
+      );
     }))
+
+two_explained : (s : Schema) (goal : List ℕ) (one other : ResponseValue) → ExplainsImplication s goal one
+    → ExplainsImplication s goal other → IsOneButForProof s (form.of_schema (form.explain_implies goal)) one other
+two_explained s goal one other first second = elim (explained_twice s goal one other first second) [
+  | inl same ↦ inl same
+  | inr both ↦ inr (inl (record { goal = goal; both = both; asks = inr refl }))
+]
 
 -- ---- questions
 pub one_schema_answer : (question : SchemaQuestion) (s : Schema) (one other : ResponseValue)
@@ -85,6 +97,7 @@ pub one_schema_answer : (question : SchemaQuestion) (s : Schema) (one other : Re
 unfolding AnswersSchema
 one_schema_answer (form.implies goal) s one other first second = two_goals s goal one other first second
 one_schema_answer form.cover s one other first second = inl (one_cover_answer s one other first second)
+one_schema_answer form.cover_canonical s one other first second = inl (one_canonical_answer s one other first second)
 one_schema_answer (form.basis set) s one other first second = inl (one_basis_answer s set one other first second)
 one_schema_answer (form.closure set) s one other first second = inl (one_closure_answer s set one other first second)
 one_schema_answer (form.project set) s one other first second = inl (one_projection_answer s set one other first second)
@@ -96,6 +109,7 @@ one_schema_answer form.synthesize_fewest s one other first second = inl (one_few
 one_schema_answer (form.split normal) s one other first second = inl (one_split_answer s normal one other first second)
 one_schema_answer form.split_wide s one other first second = inl (one_wide_split_answer s one other first second)
 one_schema_answer form.exhibit s one other first second = inl (one_exhibit_answer s one other first second)
+one_schema_answer (form.explain_implies goal) s one other first second = two_explained s goal one other first second
 one_schema_answer form.explain_cover s one other first second = inl (one_explained_cover s one other first second)
 one_schema_answer form.explain_keys s one other first second = inl (one_explained_keys s one other first second)
 one_schema_answer form.explain_synthesize s one other first second = inl (one_explained_synthesis s one other first second)
@@ -120,6 +134,14 @@ one_answer_of_plan s plan form.forms_of_plan valid one other = one_list_of_forms
 one_answer_of_plan s plan form.ddl_plan valid one other = one_plan_written s plan.names plan.schemes one other
 one_answer_of_plan s plan (form.sql_migrate_plan name) valid one other = one_plan_scripted s plan.names plan.schemes name one other
 one_answer_of_plan s plan form.draw_plan valid one other = one_plan_drawn s plan.names plan.schemes one other
+
+pub one_answer_of_pair : (s t : Schema) (file other_file : List ℕ) (question : PairQuestion)
+    → AllowsOne (AnswersPair s t file other_file question)
+unfolding AnswersPair
+one_answer_of_pair s t file other_file form.check_same one other = one_same_answer s t file other_file one other
+one_answer_of_pair s t file other_file form.check_cover one other = one_cover_check Minimal s t file other_file one other
+one_answer_of_pair s t file other_file form.check_cover_canonical one other =
+    one_cover_check Canonical s t file other_file one other
 
 pub one_answer_of_rows : (s : Schema) (rows : Relation) (question : RowsQuestion)
     → AllowsOne (AnswersRows s rows question)
@@ -172,14 +194,11 @@ one_task looks files s (form.check_proof file goal) one other single first secon
     inl (one_after_file files file (proof_file s) (proof_text_once s) (λ tree. ChecksProof s tree goal)
     (λ tree is. one_certificate_answer s tree goal) one other first second)
 one_task looks files s (form.check_derivation file goal) one other single first second =
-    inl (one_after_file files file (derivation_file s) (derivation_text_once s) (λ derived. ChecksDerivation s derived goal)
-    (λ derived is. one_derivation_answer s derived goal) one other first second)
-one_task looks files s (form.check_same file other_file) one other single first second =
-    inl (one_after_file files other_file schema_file schema_once (λ t. ChecksSame s t file other_file)
-    (λ t is. one_same_answer s t file other_file) one other first second)
-one_task looks files s (form.check_cover file other_file) one other single first second =
-    inl (one_after_file files other_file schema_file schema_once (λ t. ChecksCover s t file other_file)
-    (λ t is. one_cover_check s t file other_file) one other first second)
+    inl (one_after_file files file (derivation_file s) (derivation_text_once s) (λ lines. ChecksDerivation s lines goal)
+    (λ lines is. one_derivation_answer s lines goal) one other first second)
+one_task looks files s (form.of_pair file other_file question) one other single first second =
+    inl (one_after_file files other_file schema_file schema_once (λ t. AnswersPair s t file other_file question)
+    (λ t is. one_answer_of_pair s t file other_file question) one other first second)
 one_task looks files s (form.rejoin names) one other single first second =
     inl (one_after_parts files s names (JoinsTables s) (λ tables. one_rejoined s tables) one other first second)
 one_task looks files s (form.report file) one other single first second = two_pages file s one other first second

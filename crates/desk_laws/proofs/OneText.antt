@@ -15,7 +15,7 @@ use Rattle.schema_model.specs.Schemas.{Schema}
 use Rattle.schema_model.proofs.SchemaLemmas.{same_schema}
 use Rattle.derivation.proofs.RuleTableLemmas.{the_ok}
 use Rattle.derivation_grammar.proofs.TextLaws.{reading_law, refusal_law}
-use Rattle.derivation_grammar.specs.Derivations.{Derives}
+use Rattle.derivation_grammar.specs.Meanings.{MeansDerivation}
 use Rattle.derivation_grammar.specs.Refusals.{IsRefusedDerivation}
 use Rattle.derivation_grammar.specs.Texts.{read_derivation}
 use Rattle.headed_rows.proofs.UniqueHeaded.{headed_same, refused_same, never_both}
@@ -83,10 +83,10 @@ proof_text_once s text =
     read_once (read_proof s text) (SpellsWithin s text) (IsRefusedCertificate s text) (spelled_back s text)
     (refused_back s text)
 
-pub derivation_text_once : (s : Schema) (text : List ℕ) → HasOneReading (Derives s text) (IsRefusedDerivation s text)
+pub derivation_text_once : (s : Schema) (text : List ℕ) → HasOneReading (MeansDerivation s text) (IsRefusedDerivation s text)
 derivation_text_once s text =
-    read_once (read_derivation s text) (Derives s text) (IsRefusedDerivation s text)
-    (λ d derives. (reading_law s text d).1 derives) (λ e refused. (refusal_law s text e).1 refused)
+    read_once (read_derivation s text) (MeansDerivation s text) (IsRefusedDerivation s text)
+    (λ lines means. (reading_law s text lines).1 means) (λ e refused. (refusal_law s text e).1 refused)
 
 pub plan_text_once : (naming : Naming) (names : List (List ℕ)) (text : List ℕ)
     → HasOneReading (MeansPlan naming names text) (RefusesPlan naming names text)

@@ -5,7 +5,6 @@ use Rattle.std.specs.Prelude.{MatchOption}
 use Rattle.schema_model.specs.Schemas.{Schema}
 use Rattle.desk_outside.specs.Files.{Files}
 use Rattle.headed_rows.specs.Headings.{HeadedRows, discovered}
-use Rattle.sample_rows.specs.declared.rows.TheConstants.{MOST_PERSONS}
 use Rattle.implication_laws.proofs.OneAnswer.{one_near_answer, one_row_keys_answer, one_rules_answer, one_small_answer, one_whole_answer}
 use Rattle.plan_laws.proofs.SampleAnswers.{one_sampled}
 use Rattle.desk_cli.specs.Performs.{Answers, AnswersRules, Does, Performs}
@@ -22,7 +21,6 @@ use Rattle.desk_laws.proofs.OneHeadedFiles.{one_after_headed_files}
 use Rattle.desk_laws.proofs.OneReferences.{one_checked, one_found}
 use Rattle.desk_laws.proofs.OneTask.{one_task}
 use Rattle.desk_laws.proofs.OneText.{headed_text_once, schema_once}
-use Rattle.desk_laws.proofs.SampleWords.{sample_within}
 use Rattle.desk_references.specs.Checks.{ChecksReferences}
 use Rattle.desk_references.specs.Findings.{FindsReferences}
 use Rattle.desk_tables.specs.OwnFolders.{HasOneLook, Looks}
@@ -82,54 +80,51 @@ after_rules files question file k one other is (inl same) = inl same
 after_rules files question file k one other is (inr refused) = inr (inr (inl (file, question, k, refl, is, refused)))
 
 one_command : (looks : Looks) (files : Files) (command : CommandForm) (one other : ResponseValue) → HasOneLook looks
-    → ((persons : ℕ) → command ≡ form.sample persons → persons ≤ MOST_PERSONS)
     → Performs looks (known_files files) command one
     → Performs looks (known_files files) command other → (one ≡ other) ⊎ IsFree files command one other
 unfolding Performs
-one_command looks files (form.over_schema file task) one other single few_persons first second =
+one_command looks files (form.over_schema file task) one other single first second =
     two_after_file files file schema_file schema_once
     (λ one other. (one ≡ other) ⊎ IsFree files (form.over_schema file task) one other)
     (λ s. Does looks (known_files files) s task) (λ one other same. inl same)
     (λ s one other is first second.
     after_one_task files file task s one other is (one_task looks files s task one other single first second))
     one other first second
-one_command looks files (form.discover question file) one other single few_persons first second =
+one_command looks files (form.discover question file) one other single first second =
     two_after_file files file headed_file (headed_text_once discovered)
     (λ one other. (one ≡ other) ⊎ IsFree files (form.discover question file) one other)
     (AnswersRules question file) (λ one other same. inl same)
     (λ headed one other is first second.
     after_rules files question file headed one other is (one_of_rules question file headed one other first second))
     one other first second
-one_command looks files (form.discover_all file) one other single few_persons first second =
+one_command looks files (form.discover_all file) one other single first second =
     inl (one_after_file files file whole_file (headed_text_once wholly_discovered) FindsAllRules
     (λ headed is. one_whole_answer headed) one other first second)
-one_command looks files (form.discover_references names) one other single few_persons first second =
+one_command looks files (form.discover_references names) one other single first second =
     inl (one_after_headed_files files names (FindsReferences names) (one_found names) one other first second)
-one_command looks files (form.check_references file names more others) one other single few_persons first second =
+one_command looks files (form.check_references file names more others) one other single first second =
     inl (one_after_file files file headed_file (headed_text_once discovered)
     (λ own. WithFile headed_file (known_files files) more (λ read. ChecksReferences own names read others))
     (λ own is. one_after_file files more headed_file (headed_text_once discovered)
     (λ read. ChecksReferences own names read others) (λ read also. one_checked own names read others)) one other first second)
-one_command looks files (form.import_csv file) one other single few_persons first second =
+one_command looks files (form.import_csv file) one other single first second =
     inl (one_after_file files file imported_file (headed_text_once imported) ImportsColumns
     (λ headed is. import_once headed) one other first second)
-one_command looks files (form.import_sql dialect file table) one other single few_persons first second =
+one_command looks files (form.import_sql dialect file table) one other single first second =
     inl (one_import_of_sql files dialect file table one other first second)
-one_command looks files (form.sample persons) one other single few_persons first second =
-    let few = few_persons persons refl in inl (one_sampled persons (omega (arith, few)) one other first second)
-one_command looks files form.help one other single few_persons first second = inl (first ∙ sym second)
-one_command looks files form.version one other single few_persons first second = inl (first ∙ sym second)
+one_command looks files (form.sample persons) one other single first second =
+    let few = first.0 in inl (one_sampled persons (omega (arith, few)) one other first.1 second.1)
+one_command looks files form.help one other single first second = inl (first ∙ sym second)
+one_command looks files form.version one other single first second = inl (first ∙ sym second)
 
 -- ---- words
 one_of : (looks : Looks) (files : Files) (said : Option CommandForm) (one other : ResponseValue) → HasOneLook looks
-    → ((persons : ℕ) → said ≡ Some (form.sample persons) → persons ≤ MOST_PERSONS)
     → MatchOption said (Says Refused unknown_words_text one) (λ command. Performs looks (known_files files) command one)
     → MatchOption said (Says Refused unknown_words_text other) (λ command. Performs looks (known_files files) command other)
     → (one ≡ other) ⊎ ((command : CommandForm) × (said ≡ Some command) × IsFree files command one other)
-one_of looks files None one other single few_persons first second = inl (first ∙ sym second)
-one_of looks files (Some command) one other single few_persons first second =
-    elim (one_command looks files command one other single
-    (λ persons is. few_persons persons (ap (λ (c : CommandForm). Some c) is)) first second) [
+one_of looks files None one other single first second = inl (first ∙ sym second)
+one_of looks files (Some command) one other single first second =
+    elim (one_command looks files command one other single first second) [
       | inl same ↦ inl same
       | inr free ↦ inr (command, refl, free)
     ]
@@ -173,4 +168,4 @@ pub one_answer : (looks : Looks) (files : Files) (words : List (List ℕ)) (one 
     → Answers looks (known_files files) words one → Answers looks (known_files files) words other
     → IsOneOfWords files words one other
 one_answer looks files words one other single first second =
-    asked files words one other (one_of looks files (form_of words) one other single (sample_within words) first second)
+    asked files words one other (one_of looks files (form_of words) one other single first second)

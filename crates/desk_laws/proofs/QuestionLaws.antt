@@ -5,6 +5,8 @@ use Rattle.std.proofs.lemmas.Bool.{false≢true}
 use Rattle.std.specs.Prelude.{codes, All, Contains}
 use Rattle.attr_sets.specs.Attributes.{Attributes, IsEmpty}
 use Rattle.attr_sets.specs.declared.set.AttrSet.{AttrSet}
+use Rattle.cover_accounts.specs.declared.diagnostic.CoverForm.{CoverForm}
+use Rattle.cover_accounts.specs.declared.diagnostic.CoverForm.TheVariants.{Canonical, Minimal}
 use Rattle.dep_model.specs.Dependencies.{Dependency}
 use Rattle.schema_model.specs.Schemas.{names_of, width_of, theory_of, naming_of}
 use Rattle.schema_model.specs.Schemas.{Schema}
@@ -16,7 +18,7 @@ use Rattle.plan_printer.specs.NamedPlans.{NamedSchemes}
 use Rattle.desk_outside.specs.Files.{Files}
 use Rattle.desk_responses.specs.ResponseValues.{ResponseValue, Allowed}
 use Rattle.desk_implication.specs.Bases.{TellsBasis}
-use Rattle.desk_words.specs.Forms.{form_of, form_over_schema, after_check, after_keys, two_schemas, schema_and_word}
+use Rattle.desk_words.specs.Forms.{form_of, form_over_schema, after_check, after_check_cover, after_keys, two_schemas, schema_and_word}
 use Rattle.desk_inputs.specs.FileKinds.{IsFile, WithFile}
 use Rattle.desk_inputs.specs.Inputs.{schema_file}
 use Rattle.desk_arguments.specs.Goals.{WithSet, SetStops, IsSetText}
@@ -25,7 +27,7 @@ use Rattle.desk_covers.specs.CoverChecks.{TestsCover}
 use Rattle.desk_keys.specs.KeyChecks.{TestsKey}
 use Rattle.desk_implication.specs.Projections.{ProjectsSet}
 use Rattle.desk_keys.specs.Keys.{ListsKeysOfPlan}
-use Rattle.desk_cli.specs.Performs.{Answers, Performs, Does, AnswersSchema, AnswersPlan}
+use Rattle.desk_cli.specs.Performs.{Answers, Performs, Does, AnswersPair, AnswersSchema, AnswersPlan}
 use Rattle.desk_inputs.specs.Plans.{plan_file}
 use Rattle.desk_inputs.specs.Readings.{known_files}
 use Rattle.desk_covers.specs.Sameness.{WithSameNames, Compares, LacksName}
@@ -189,7 +191,7 @@ two_answered files name other_name schema other rest decided held_schema held_ot
 same_asks : (files : Files) (name other_name : List ℕ) (looks : Looks) (response : ResponseValue)
     → Answers looks (known_files files) (codes "check" ∷ codes "same" ∷ name ∷ other_name ∷ []) response
     → WithFile schema_file (known_files files) name (λ r. WithFile schema_file (known_files files) other_name (λ p. WithSameNames r p name other_name (Compares r p name other_name))) response
-unfolding form_of form_over_schema after_check two_schemas Performs Does
+unfolding form_of form_over_schema after_check two_schemas Performs Does AnswersPair
 same_asks files name other_name looks response answered = answered
 
 pub same_answered : (files : Files) (name other_name : List ℕ) (schema other : Schema)
@@ -200,15 +202,16 @@ same_answered files name other_name schema other held_schema held_other names lo
     two_answered files name other_name schema other Compares Compares-yes_or_no held_schema held_other names response
     (same_asks files name other_name looks response answered)
 
-TestsCover-yes_or_no : (r p : Schema) (file other_file : List ℕ) (response : ResponseValue) → TestsCover r p file other_file response → IsYesOrNo response.status
-TestsCover-yes_or_no r p file other_file response (inl (there, back, differ, says)) = inr (ap (λ (a : ResponseValue). a.status) says)
-TestsCover-yes_or_no r p file other_file response (inr (same, (found, are, inl (none, says)))) = inl (ap (λ (a : ResponseValue). a.status) says)
-TestsCover-yes_or_no r p file other_file response (inr (same, (found, are, inr (some, says)))) = inr (ap (λ (a : ResponseValue). a.status) says)
+TestsCover-yes_or_no : (form : CoverForm) (r p : Schema) (file other_file : List ℕ) (response : ResponseValue)
+    → TestsCover form r p file other_file response → IsYesOrNo response.status
+TestsCover-yes_or_no form r p file other_file response (inl (there, back, differ, says)) = inr (ap (λ (a : ResponseValue). a.status) says)
+TestsCover-yes_or_no form r p file other_file response (inr (same, (found, are, inl (none, says)))) = inl (ap (λ (a : ResponseValue). a.status) says)
+TestsCover-yes_or_no form r p file other_file response (inr (same, (found, are, inr (some, says)))) = inr (ap (λ (a : ResponseValue). a.status) says)
 
-cover_asks : (files : Files) (name other_name : List ℕ) (looks : Looks) (response : ResponseValue)
+pub cover_asks : (files : Files) (name other_name : List ℕ) (looks : Looks) (response : ResponseValue)
     → Answers looks (known_files files) (codes "check" ∷ codes "cover" ∷ name ∷ other_name ∷ []) response
-    → WithFile schema_file (known_files files) name (λ r. WithFile schema_file (known_files files) other_name (λ p. WithSameNames r p name other_name (TestsCover r p name other_name))) response
-unfolding form_of form_over_schema after_check two_schemas Performs Does
+    → WithFile schema_file (known_files files) name (λ r. WithFile schema_file (known_files files) other_name (λ p. WithSameNames r p name other_name (TestsCover Minimal r p name other_name))) response
+unfolding form_of form_over_schema after_check after_check_cover Performs Does AnswersPair
 cover_asks files name other_name looks response answered = answered
 
 pub cover_checked : (files : Files) (name other_name : List ℕ) (schema other : Schema)
@@ -216,5 +219,19 @@ pub cover_checked : (files : Files) (name other_name : List ℕ) (schema other :
     → SameNames schema other
     → IsAnswered files (codes "check" ∷ codes "cover" ∷ name ∷ other_name ∷ [])
 cover_checked files name other_name schema other held_schema held_other names looks response answered =
-    two_answered files name other_name schema other TestsCover TestsCover-yes_or_no held_schema held_other names response
+    two_answered files name other_name schema other (TestsCover Minimal) (TestsCover-yes_or_no Minimal) held_schema held_other names response
     (cover_asks files name other_name looks response answered)
+
+pub canonical_asks : (files : Files) (name other_name : List ℕ) (looks : Looks) (response : ResponseValue)
+    → Answers looks (known_files files) (codes "check" ∷ codes "cover" ∷ codes "canonical" ∷ name ∷ other_name ∷ []) response
+    → WithFile schema_file (known_files files) name (λ r. WithFile schema_file (known_files files) other_name (λ p. WithSameNames r p name other_name (TestsCover Canonical r p name other_name))) response
+unfolding form_of form_over_schema after_check after_check_cover Performs Does AnswersPair
+canonical_asks files name other_name looks response answered = answered
+
+pub canonical_checked : (files : Files) (name other_name : List ℕ) (schema other : Schema)
+    → IsFile schema_file (known_files files) name schema → IsFile schema_file (known_files files) other_name other
+    → SameNames schema other
+    → IsAnswered files (codes "check" ∷ codes "cover" ∷ codes "canonical" ∷ name ∷ other_name ∷ [])
+canonical_checked files name other_name schema other held_schema held_other names looks response answered =
+    two_answered files name other_name schema other (TestsCover Canonical) (TestsCover-yes_or_no Canonical) held_schema held_other names response
+    (canonical_asks files name other_name looks response answered)

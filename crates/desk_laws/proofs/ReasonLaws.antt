@@ -3,9 +3,12 @@ use Rattle.std.proofs.Common.{ℕ, List, [], ◌∷◌, inl, inr, ap, sym, subst
 use Rattle.std.specs.Prelude.{codes}
 use Rattle.schema_model.specs.Schemas.{Schema, theory_in}
 use Rattle.key_listing.specs.Refusals.{IsTooWide}
+use Rattle.dep_model.specs.Dependencies.{Dependency}
+use Rattle.desk_arguments.specs.Goals.{IsGoal, WithGoal}
 use Rattle.desk_cli.specs.Performs.{Answers, Performs, Does, AnswersSchema}
 use Rattle.desk_covers.specs.CoverReasons.{AreCoverReasons, ExplainsCover}
 use Rattle.desk_covers.specs.Covering.{GivesCover}
+use Rattle.desk_implication.specs.Explanations.{ExplainsGoal}
 use Rattle.desk_keys.specs.KeyReasons.{AreKeyReasons, ExplainsKeys}
 use Rattle.desk_keys.specs.Keys.{HasManyKeys, ListsKeys}
 use Rattle.desk_inputs.specs.FileKinds.{IsFile, WithFile}
@@ -23,9 +26,9 @@ use Rattle.desk_responses.specs.ResponseValues.{ResponseValue, Allowed, With}
 use Rattle.dep_model.specs.declared.form.Form.{Form}
 use Rattle.dep_model.specs.declared.form.Form.TheVariants.{Bcnf, Fourth}
 use Rattle.desk_responses.specs.declared.status.Status.{Status}
-use Rattle.desk_words.specs.Forms.{form_of, form_over_schema, after_explain, after_explain_split, after_explain_synthesize, schema_alone}
+use Rattle.desk_words.specs.Forms.{form_of, form_over_schema, after_explain, after_explain_split, after_explain_synthesize, schema_alone, schema_and_word}
 use Rattle.desk_laws.specs.Completeness.{IsYesOrNo, IsAnswered, HasPlanInForm}
-use Rattle.desk_laws.proofs.CompleteLaws.{after_schema, lists_keys}
+use Rattle.desk_laws.proofs.CompleteLaws.{Decided-yes_or_no, after_goal, after_schema, lists_keys}
 use Rattle.desk_laws.proofs.TableLaws.{after_form}
 use Rattle.desk_tables.specs.OwnFolders.{Looks}
 
@@ -36,6 +39,26 @@ Explained-yes_or_no AreReasons answers response go (plain, is, inl (agrees, (rea
     inl (ap (λ (r : ResponseValue). r.status) reads ∙ agrees)
 Explained-yes_or_no AreReasons answers response go (plain, is, inr (stops, same)) =
     subst (λ (status : Status). IsYesOrNo status) (sym (ap (λ (r : ResponseValue). r.status) same)) (go plain is)
+
+ExplainsGoal-yes_or_no : (r : Schema) (d : Dependency) (response : ResponseValue) → ExplainsGoal r d response
+    → IsYesOrNo response.status
+ExplainsGoal-yes_or_no r d response (inl (implied, (lines, found, says))) = inl (ap (λ (a : ResponseValue). a.status) says)
+ExplainsGoal-yes_or_no r d response (inr (broken, found)) = Decided-yes_or_no r d response found
+
+implies_asks : (files : Files) (name goal : List ℕ) (looks : Looks) (response : ResponseValue)
+    → Answers looks (known_files files) (codes "explain" ∷ codes "implies" ∷ name ∷ goal ∷ []) response
+    → WithFile schema_file (known_files files) name (λ r. WithGoal r goal (ExplainsGoal r)) response
+unfolding form_of form_over_schema after_explain schema_and_word Performs Does AnswersSchema
+implies_asks files name goal looks response answered = answered
+
+pub implies_explained : (files : Files) (name goal : List ℕ) (schema : Schema) (dep : Dependency)
+    → IsFile schema_file (known_files files) name schema → IsGoal schema goal dep
+    → IsAnswered files (codes "explain" ∷ codes "implies" ∷ name ∷ goal ∷ [])
+implies_explained files name goal schema dep file is looks response answered =
+    ExplainsGoal-yes_or_no schema dep response
+    (after_goal schema goal dep (ExplainsGoal schema) response is
+    (after_schema files name schema (λ r. WithGoal r goal (ExplainsGoal r)) response file
+    (implies_asks files name goal looks response answered)))
 
 cover_asks : (files : Files) (name : List ℕ) (looks : Looks) (response : ResponseValue)
     → Answers looks (known_files files) (codes "explain" ∷ codes "cover" ∷ name ∷ []) response

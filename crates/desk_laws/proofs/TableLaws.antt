@@ -44,7 +44,7 @@ use Rattle.sample_rows.specs.Sample.{sample_relation}
 use Rattle.desk_designs.specs.NormalForms.{JudgesForm, form_word, tested_word}
 use Rattle.which_form.specs.declared.forms.TestedForm.{TestedForm}
 use Rattle.which_form.specs.declared.forms.TestedForm.TheVariants.{Second, Higher}
-use Rattle.desk_cli.specs.Performs.{Answers, Performs, Does, AnswersSchema, AnswersPlan}
+use Rattle.desk_cli.specs.Performs.{Answers, Performs, Does, AnswersSchema, AnswersPlan, SamplesFew}
 use Rattle.desk_inputs.specs.Plans.{plan_file}
 use Rattle.desk_inputs.specs.Readings.{known_files}
 use Rattle.desk_inputs.specs.Rows.{rows_file}
@@ -343,7 +343,9 @@ migrate_plan_answered files name planned file schema plan rows held_schema held_
 
 sample_asks : (files : Files) (word : List ℕ) (looks : Looks) (response : ResponseValue) → is_count word ≡ true → Answers looks (known_files files) (codes "sample" ∷ word ∷ []) response → Samples (number_of word) response
 unfolding form_of persons_alone Performs
-sample_asks files word looks response is answered = (rw is at answered)
+sample_asks files word looks response is answered =
+    let found : SamplesFew (number_of word) response = (rw is at answered) in
+    found.1
 
 pub sample_answered : (files : Files) (word : List ℕ) → is_count word ≡ true → IsAnswered files (codes "sample" ∷ word ∷ [])
 sample_answered files word is looks response answered =

@@ -55,6 +55,12 @@ CoverIsAnswered =
     (files : Files) (name : List ℕ) (schema : Schema) → IsFile schema_file (known_files files) name schema
     → IsAnswered files (codes "cover" ∷ name ∷ [])
 
+-- `cover canonical` is answered where the schema file means a schema
+abbrev pub CoverCanonicalIsAnswered : Type 0
+CoverCanonicalIsAnswered =
+    (files : Files) (name : List ℕ) (schema : Schema) → IsFile schema_file (known_files files) name schema
+    → IsAnswered files (codes "cover" ∷ codes "canonical" ∷ name ∷ [])
+
 -- `keys` is answered where also the universe is not too wide, and has no more keys than are listed
 abbrev pub KeysIsAnswered : Type 0
 KeysIsAnswered =

@@ -76,3 +76,11 @@ CheckCoverIsAnswered =
     → IsFile schema_file (known_files files) name schema → IsFile schema_file (known_files files) other_name other
     → SameNames schema other
     → IsAnswered files (codes "check" ∷ codes "cover" ∷ name ∷ other_name ∷ [])
+
+-- `check cover canonical` is answered where the two schema files mean schemas over the same names
+abbrev pub CheckCoverCanonicalIsAnswered : Type 0
+CheckCoverCanonicalIsAnswered =
+    (files : Files) (name other_name : List ℕ) (schema other : Schema)
+    → IsFile schema_file (known_files files) name schema → IsFile schema_file (known_files files) other_name other
+    → SameNames schema other
+    → IsAnswered files (codes "check" ∷ codes "cover" ∷ codes "canonical" ∷ name ∷ other_name ∷ [])

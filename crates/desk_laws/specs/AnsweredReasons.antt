@@ -1,14 +1,23 @@
 -- When words are answered, as the laws of `complete_reasons` say it: reasons. `Desk` does not cite it.
 use Rattle.std.specs.Prelude.{ℕ, List, [], ◌∷◌, codes}
+use Rattle.dep_model.specs.Dependencies.{Dependency}
 use Rattle.schema_model.specs.Schemas.{Schema, theory_in}
 use Rattle.key_listing.specs.Refusals.{IsTooWide}
 use Rattle.desk_outside.specs.Files.{Files}
+use Rattle.desk_arguments.specs.Goals.{IsGoal}
 use Rattle.desk_inputs.specs.FileKinds.{IsFile}
 use Rattle.desk_inputs.specs.Inputs.{schema_file}
 use Rattle.desk_inputs.specs.Readings.{known_files}
 use Rattle.desk_keys.specs.Keys.{HasManyKeys}
 use Rattle.dep_model.specs.declared.form.Form.TheVariants as forms
 use Rattle.desk_laws.specs.Completeness.{IsAnswered, HasPlanInForm}
+
+-- `explain implies` is answered where the schema file means a schema and the goal a dependency
+abbrev pub ExplainImpliesIsAnswered : Type 0
+ExplainImpliesIsAnswered =
+    (files : Files) (name goal : List ℕ) (schema : Schema) (dep : Dependency)
+    → IsFile schema_file (known_files files) name schema → IsGoal schema goal dep
+    → IsAnswered files (codes "explain" ∷ codes "implies" ∷ name ∷ goal ∷ [])
 
 -- `explain cover` is answered where the schema file means a schema
 abbrev pub ExplainCoverIsAnswered : Type 0

@@ -1,6 +1,7 @@
--- The definitions of desk_laws: when nothing fails, when a plan is found, when words have one answer, and what is
--- imported of what was printed.
+-- The definitions of desk_laws: when nothing fails, when a plan is found, what is accepted of what was printed, when
+-- words have one answer, and what is imported of what was printed.
 pub mod Completeness
+pub mod AcceptedTexts
 pub mod OneReading
 pub mod Imported
 pub mod OneAnswers

@@ -5,7 +5,7 @@ use Rattle.csv_rows.specs.declared.refusal.RowRefusal.{RowRefusal}
 use Rattle.dep_model.specs.Tuples.{Relation}
 use Rattle.schema_model.specs.declared.naming.Naming.{Naming}
 use Rattle.schema_model.specs.Schemas.{Schema}
-use Rattle.derivation_grammar.specs.Derivations.{Derives}
+use Rattle.derivation_grammar.specs.Meanings.{MeansDerivation}
 use Rattle.derivation_grammar.specs.Refusals.{IsRefusedDerivation}
 use Rattle.desk_outside.specs.Files.{Files}
 use Rattle.plan_grammar.specs.Diagnostics.{RefusesPlan}
@@ -45,7 +45,7 @@ TextsOfFilesHaveOneReadingProof =
 abbrev pub TextsOfFilesHaveOneReadingDerivation : Type 0
 TextsOfFilesHaveOneReadingDerivation =
     (schema : Schema) (text : List ℕ)
-    → HasOneReading (Derives schema text) (IsRefusedDerivation schema text)
+    → HasOneReading (MeansDerivation schema text) (IsRefusedDerivation schema text)
 
 -- the text of a file has one reading: of a schema, of a plan, of a certificate, of a derivation, and of rows
 -- (`rows`)

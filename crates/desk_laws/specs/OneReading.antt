@@ -1,11 +1,8 @@
 -- When a text has one reading, and words one answer: for the laws of `one_answer`. `Desk` does not cite it.
 use Rattle.std.specs.Prelude.{◌≡◌, ◌⊎◌, ℕ, List, Some, length}
-use Rattle.dep_model.specs.Dependencies.{Dependency}
-use Rattle.schema_model.specs.Schemas.{ImpliedBy}
 use Rattle.schema_model.specs.Schemas.{Schema}
 use Rattle.headed_rows.specs.Headings.{HeadedRows}
-use Rattle.implication_laws.specs.OneAnswer.{HasFixedProof}
-use Rattle.desk_arguments.specs.Goals.{IsGoal}
+use Rattle.implication_laws.specs.OneAnswer.{AreBothYes, HasFixedProof}
 use Rattle.desk_discovery.specs.Discoveries.{RefusesRules}
 use Rattle.desk_discovery.specs.KeyDiscoveries.{RefusesRowKeys}
 use Rattle.desk_inputs.specs.FileKinds.{IsFile}
@@ -15,7 +12,7 @@ use Rattle.desk_inputs.specs.Readings.{known_files}
 use Rattle.desk_outside.specs.Files.{Files}
 use Rattle.desk_responses.specs.ResponseValues.{Allowed, ResponseValue}
 use Rattle.desk_responses.specs.declared.status.Status.TheVariants.{Yes}
-use Rattle.desk_words.specs.Forms.{RulesQuestion, Task, discover, form_of, implies, keys_of_rows, minimal_rules, near_rules, of_schema, over_schema, report, report_plan, small_rules}
+use Rattle.desk_words.specs.Forms.{RulesQuestion, Task, discover, explain_implies, form_of, implies, keys_of_rows, minimal_rules, near_rules, of_schema, over_schema, report, report_plan, small_rules}
 
 -- a text means one value at most, or is refused in one way at most, and never both
 pub record HasOneReading {Value Refusal : Type 0} (Means : Value → Type 0) (Refuses : Refusal → Type 0)
@@ -24,17 +21,13 @@ pub record HasOneReading {Value Refusal : Type 0} (Means : Value → Type 0) (Re
   pub one_refusal : (refusal other : Refusal) → Refuses refusal → Refuses other → refusal ≡ other
   pub never_both : (value : Value) (refusal : Refusal) → Means value → Refuses refusal → ⊥
 
--- it is asked whether a goal is implied, and it is: both answers say so, and they are equal where the derivation
--- that is printed is fixed
+-- it is asked whether a goal is implied, and it is: both answers say so. `implies` asks, whose answers are equal
+-- where the derivation that is printed is fixed, or `explain implies`
 pub record BothDerive (schema : Schema) (task : Task) (one other : ResponseValue) : Type 0 where
   pub goal : List ℕ
-  pub asks : task ≡ of_schema (implies goal)
-  pub dependency : Dependency
-  pub means : IsGoal schema goal dependency
-  pub implied : ImpliedBy schema dependency
-  pub one_says_yes : one.status ≡ Yes
-  pub other_says_yes : other.status ≡ Yes
-  pub fixed : HasFixedProof schema dependency → one ≡ other
+  pub both : AreBothYes schema goal one other
+  pub asks : ((task ≡ of_schema (implies goal)) × (HasFixedProof schema both.dependency → one ≡ other))
+      ⊎ (task ≡ of_schema (explain_implies goal))
 
 -- a page is asked for, of the schema of a file, or of it and a plan
 abbrev pub AsksForAPage : Task → Type 0

@@ -11,7 +11,7 @@ ghost use Rattle.desk_delivery.specs.Outcomes.{destinations_in_call, own_in_call
 ghost use Rattle.own_folder.specs.OwnWriting.{folder_in_call, place_in_call};
 ghost use Rattle.desk_tables.specs.OwnFolders.{Looks};
 ghost use Rattle.desk_laws.specs.Completeness.{IsYesOrNo, IsAnsweredBy, FailsNowhere};
-ghost use Rattle.desk_laws.specs.AnsweredCalls.{ImpliesIsAnswered, CheckProofIsAnswered, CheckRowsIsAnswered, CheckJoinIsAnswered, CoverIsAnswered, KeysIsAnswered, SynthesizeIsAnswered, HelpIsAnsweredHelp, HelpIsAnsweredLong, HelpIsAnsweredDashH, HelpIsAnsweredVersion};
+ghost use Rattle.desk_laws.specs.AnsweredCalls.{ImpliesIsAnswered, CheckProofIsAnswered, CheckRowsIsAnswered, CheckJoinIsAnswered, CoverIsAnswered, CoverCanonicalIsAnswered, KeysIsAnswered, SynthesizeIsAnswered, HelpIsAnsweredHelp, HelpIsAnsweredLong, HelpIsAnsweredDashH, HelpIsAnsweredVersion};
 
 use desk_outside::{FileSource, Folder};
 use destinations::Destination;
@@ -63,6 +63,11 @@ pub fn check_join_is_answered()
 /// `cover` is answered where the schema file means a schema.
 pub fn cover_is_answered()
     ensures law { CoverIsAnswered }
+{}
+
+/// `cover canonical` is answered where the schema file means a schema.
+pub fn cover_canonical_is_answered()
+    ensures law { CoverCanonicalIsAnswered }
 {}
 
 /// `keys` is answered where also the universe is not too wide, and has no more keys than are listed.

@@ -3,8 +3,8 @@
 
 ghost use Rattle.desk_laws.specs.AnsweredDerivations.{CheckDerivationIsAnswered};
 
-/// `check derivation` is answered where the schema file means a schema, the derivation file derives
-/// something, and the goal is a dependency.
+/// `check derivation` is answered where the schema file means a schema, the derivation file lines, and the goal a
+/// dependency.
 pub fn check_derivation_is_answered()
     ensures law { CheckDerivationIsAnswered }
 {}

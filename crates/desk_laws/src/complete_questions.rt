@@ -2,7 +2,7 @@
 //! memory (`complete` says it of every call): the laws of the commands on sets, keys of a plan, and
 //! two schemas.
 
-ghost use Rattle.desk_laws.specs.AnsweredQuestions.{BasisIsAnswered, ClosureIsAnswered, ProjectIsAnswered, CheckKeyIsAnswered, KeysOfPlanIsAnswered, CheckSameIsAnswered, CheckCoverIsAnswered};
+ghost use Rattle.desk_laws.specs.AnsweredQuestions.{BasisIsAnswered, ClosureIsAnswered, ProjectIsAnswered, CheckKeyIsAnswered, KeysOfPlanIsAnswered, CheckSameIsAnswered, CheckCoverIsAnswered, CheckCoverCanonicalIsAnswered};
 
 /// `basis` is answered where the schema file means a schema and the text a set.
 pub fn basis_is_answered()
@@ -39,4 +39,9 @@ pub fn check_same_is_answered()
 /// `check cover` is answered where the two schema files mean schemas over the same names.
 pub fn check_cover_is_answered()
     ensures law { CheckCoverIsAnswered }
+{}
+
+/// `check cover canonical` is answered where the two schema files mean schemas over the same names.
+pub fn check_cover_canonical_is_answered()
+    ensures law { CheckCoverCanonicalIsAnswered }
 {}

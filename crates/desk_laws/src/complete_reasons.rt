@@ -1,7 +1,12 @@
 //! Where its files have their meaning and nothing fails, a call ends with yes or no, or runs out of
 //! memory (`complete` says it of every call): the laws of explanations.
 
-ghost use Rattle.desk_laws.specs.AnsweredReasons.{ExplainCoverIsAnswered, ExplainKeysIsAnswered, ExplainSynthesizeIsAnswered, ExplainFewestIsAnswered, ExplainSplitIsAnsweredBcnf, ExplainSplitIsAnsweredFourth};
+ghost use Rattle.desk_laws.specs.AnsweredReasons.{ExplainImpliesIsAnswered, ExplainCoverIsAnswered, ExplainKeysIsAnswered, ExplainSynthesizeIsAnswered, ExplainFewestIsAnswered, ExplainSplitIsAnsweredBcnf, ExplainSplitIsAnsweredFourth};
+
+/// `explain implies` is answered where the schema file means a schema and the goal a dependency.
+pub fn explain_implies_is_answered()
+    ensures law { ExplainImpliesIsAnswered }
+{}
 
 /// `explain cover` is answered where the schema file means a schema.
 pub fn explain_cover_is_answered()

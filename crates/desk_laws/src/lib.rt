@@ -3,12 +3,14 @@
 //! Each law is a function that does nothing, whose clause is the law; so the gate asks for its
 //! proof.
 //!
-//! Promises: what `implies` prints, `check proof` accepts; what `ddl` prints, `import` reads back;
-//! what `discover references` lists, `check references` confirms; where nothing fails, a call whose
-//! inputs have a meaning is answered; over known files any two answers to words are equal, but for
-//! the derivation of a goal.
+//! Promises: what `implies` prints, `check proof` accepts, and `check derivation` what `explain implies`
+//! prints; what `cover` prints, `check cover` confirms, canonical or not; what `ddl` prints, `import`
+//! reads back; what `discover references` lists, `check references` confirms; where nothing fails, a
+//! call whose inputs have a meaning is answered; over known files any two answers to words are equal,
+//! but for the derivation of a goal.
 #![tactic(auto)]
 
+mod accepted;
 mod begun;
 mod complete;
 mod complete_derivations;
@@ -25,32 +27,27 @@ mod one_answer;
 mod one_measure;
 mod one_references;
 
-ghost use Rattle.std.specs.Prelude.{◌≡◌, ◌≤◌, ℕ, List, [], ◌∷◌, length, Some, codes};
-ghost use Rattle.desk_responses.specs.declared.status.Status.TheVariants.{Yes};
-ghost use Rattle.desk_responses.specs.ResponseValues.{ResponseValue};
-ghost use Rattle.desk_cli.specs.Performs.{Answers};
-ghost use Rattle.desk_inputs.specs.Readings.{known_files};
-ghost use Rattle.desk_tables.specs.OwnFolders.{Looks};
-ghost use Rattle.desk_outside.specs.Files.{Files, bytes_of_file};
-ghost use Rattle.proof_text.specs.declared.text.TheConstants.{MOST_PROOF_BYTES};
-
+pub use accepted::{
+    printed_covers_are_confirmed, printed_derivation_is_accepted, printed_proof_is_accepted,
+};
 pub use begun::last_of_the_names_is_taken;
 pub use complete::{
     answered_calls_end, check_join_is_answered, check_proof_is_answered, check_rows_is_answered,
-    cover_is_answered, help_is_answered, implies_is_answered, keys_is_answered,
-    synthesize_is_answered,
+    cover_canonical_is_answered, cover_is_answered, help_is_answered, implies_is_answered,
+    keys_is_answered, synthesize_is_answered,
 };
 pub use complete_derivations::check_derivation_is_answered;
 pub use complete_folders::migrate_into_is_answered;
 pub use complete_measures::{kept_is_answered, measure_is_answered, offences_is_answered};
 pub use complete_pages::{calls_answered_by_yes_end, report_is_answered};
 pub use complete_questions::{
-    basis_is_answered, check_cover_is_answered, check_key_is_answered, check_same_is_answered,
-    closure_is_answered, keys_of_plan_is_answered, project_is_answered,
+    basis_is_answered, check_cover_canonical_is_answered, check_cover_is_answered,
+    check_key_is_answered, check_same_is_answered, closure_is_answered, keys_of_plan_is_answered,
+    project_is_answered,
 };
 pub use complete_reasons::{
-    explain_cover_is_answered, explain_fewest_is_answered, explain_keys_is_answered,
-    explain_split_is_answered, explain_synthesize_is_answered,
+    explain_cover_is_answered, explain_fewest_is_answered, explain_implies_is_answered,
+    explain_keys_is_answered, explain_split_is_answered, explain_synthesize_is_answered,
 };
 pub use complete_references::{check_references_is_answered, discover_references_is_answered};
 pub use complete_scripts::{
@@ -73,16 +70,3 @@ pub use one_measure::{
 pub use one_references::{
     one_answer_of_check_references, one_answer_of_discover_references, references_are_checked,
 };
-
-/// What `implies` prints after yes, kept in a file, is accepted by `check proof` for the same schema and
-/// goal, where the text is within the limit of certificate files.
-pub fn printed_proof_is_accepted()
-    ensures law { (looks later : Looks) (before after : Files) (schema goal file : List ℕ) (printed : ResponseValue)
-        → Answers looks (known_files before) (codes "implies" ∷ schema ∷ goal ∷ []) printed → printed.status ≡ Yes
-        → bytes_of_file after schema ≡ bytes_of_file before schema → bytes_of_file after file
-        ≡ Some printed.text
-        → length printed.text ≤ MOST_PROOF_BYTES
-        → (response : ResponseValue)
-        → Answers later (known_files after) (codes "check" ∷ codes "proof" ∷ schema ∷ file ∷ goal ∷ []) response
-        → response.status ≡ Yes }
-{}

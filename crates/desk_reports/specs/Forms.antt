@@ -1,8 +1,8 @@
 -- The section of a page on the normal forms of the universe of a schema.
-use Rattle.std.specs.Prelude.{◌⊎◌, ℕ, List, [], ◌∷◌, ◌++◌, codes}
+use Rattle.std.specs.Prelude.{◌⊎◌, ◌↔◌, ℕ, Bool, if◌then◌else◌, IsTrue, List, [], ◌∷◌, ◌++◌, codes}
 use Rattle.attr_sets.specs.Attributes.{Attributes}
-use Rattle.dep_model.specs.Dependencies.{Dependency, fd}
-use Rattle.schema_model.specs.Schemas.{theory_of, universe_of, width_of}
+use Rattle.dep_model.specs.Dependencies.{Dependency, fd, mvd}
+use Rattle.schema_model.specs.Schemas.{ImpliedBy, theory_of, universe_of, width_of}
 use Rattle.schema_model.specs.Schemas.{Schema}
 use Rattle.fd_closure.specs.LeftSides.{IsWideScheme}
 use Rattle.html_pages.specs.Commands.{shell_word}
@@ -45,9 +45,23 @@ ShowsWhy file s form x y = Folds
     (goal_words file (goal_text s (tested_violation_of form x y))))
     (DecidesGoal s (goal_text s (tested_violation_of form x y)))
 
--- whether its left side determines all attributes
-abbrev pub ShowsTwice : Schema → Attributes → Shown
-ShowsTwice s x = Folds (codes "Two rows that store it twice") (DecidesGoal s (goal_text s (fd x (universe_of s))))
+-- the title above whether the left side of a violation determines all attributes by all dependencies: where it
+-- does not, two rows store a functional violation twice, and agree on the left side of a multivalued one; where it
+-- does, as beside multivalued dependencies a violation of second or third form may, it is a key
+abbrev pub functional_title : Bool → List ℕ
+functional_title is_key =
+    if is_key then codes "Its left side is a key by all dependencies" else codes "Two rows that store it twice"
+
+abbrev pub left_side_title : Dependency → Bool → List ℕ
+left_side_title (fd x y) is_key = functional_title is_key
+left_side_title (mvd x y) is_key = codes "Two rows that agree on its left side"
+
+-- whether it does, of the violation of a form
+abbrev pub ShowsLeftSide : Schema → TestedForm → Attributes → Attributes → Shown
+ShowsLeftSide s form x y text =
+    (is_key : Bool) × (IsTrue is_key ↔ ImpliedBy s (fd x (universe_of s)))
+    × Folds (left_side_title (tested_violation_of form x y) is_key)
+    (DecidesGoal s (goal_text s (fd x (universe_of s)))) text
 
 -- why the universe is not in the form, where that is violated; nothing where it is not, or the universe is too wide
 -- to be tested
@@ -58,7 +72,7 @@ ShowsViolation file s form text =
     ⊎ ((IsWideScheme (theory_of s) (universe_of s) → ⊥)
     × ((x : Attributes) × (y : Attributes)
     × IsNamedViolation (width_of s) (theory_of s) form (universe_of s) x y
-    × Then (ShowsWhy file s form x y) (ShowsTwice s x) text))
+    × Then (ShowsWhy file s form x y) (ShowsLeftSide s form x y) text))
 
 -- whether the universe is in the form, and why it is not
 abbrev pub ShowsForm : List ℕ → Schema → TestedForm → Shown

@@ -1,5 +1,5 @@
 -- What may stand at a place of a page: for all its sections.
-use Rattle.std.specs.Prelude.{◌≡◌, ℕ, zero, suc, List, [], ◌++◌}
+use Rattle.std.specs.Prelude.{◌≡◌, ℕ, zero, suc, List, [], ◌++◌, codes}
 use Rattle.html_pages.specs.Pages.{folded_text, open_text, section_text}
 use Rattle.desk_responses.specs.ResponseValues.{Allowed, ResponseValue}
 
@@ -31,6 +31,14 @@ Opens title answers text = (printed : List ℕ) × Prints answers printed × (te
 -- the same, folded
 abbrev pub Folds : List ℕ → Allowed → Shown
 Folds title answers text = (printed : List ℕ) × Prints answers printed × (text ≡ folded_text title printed)
+
+-- what `explain` prints of what stands before, folded
+abbrev pub FoldsReasons : Allowed → Shown
+FoldsReasons answers = Folds (codes "Why") answers
+
+-- what a command prints, below a title, and what `explain` prints of it
+abbrev pub OpensExplained : List ℕ → Allowed → Allowed → Shown
+OpensExplained title answers explained = Then (Opens title answers) (FoldsReasons explained)
 
 -- pieces below the heading of a section
 abbrev pub Section : List ℕ → Shown → Shown

@@ -5,26 +5,30 @@ use Rattle.plan_printer.specs.NamedPlans.{NamedSchemes}
 use Rattle.html_pages.specs.Commands.{shell_word}
 use Rattle.html_pages.specs.Pages.{page_text, title_with_words}
 use Rattle.dep_model.specs.declared.form.Form.TheVariants.{Third, Bcnf, Fourth}
+use Rattle.desk_covers.specs.CoverReasons.{ExplainsCover}
 use Rattle.desk_covers.specs.Covering.{GivesCover}
 use Rattle.desk_exhibits.specs.Exhibits.{Exhibits}
+use Rattle.desk_keys.specs.KeyReasons.{ExplainsKeys}
 use Rattle.desk_keys.specs.Keys.{ListsKeys}
 use Rattle.desk_responses.specs.declared.status.Status.TheVariants.{Yes}
 use Rattle.desk_responses.specs.ResponseValues.{Allowed, Says}
 use Rattle.desk_reports.specs.Attributes.{AttributesSection}
 use Rattle.desk_reports.specs.Forms.{FormsSection}
-use Rattle.desk_reports.specs.Pieces.{Opens, Section, Shown, Then}
+use Rattle.desk_reports.specs.Pieces.{Opens, OpensExplained, Section, Shown, Then}
 use Rattle.desk_reports.specs.Rules.{RulesSection}
 use Rattle.desk_reports.specs.Tables.{PlanSection, TablesSection}
 
--- what the rules come to
+-- what the rules come to, and how
 abbrev pub CoverSection : List ℕ → Schema → Shown
 CoverSection file s = Section (codes "Cover")
-    (Opens (title_with_words (codes "What the rules come to") (codes "cover " ++ shell_word file)) (GivesCover s))
+    (OpensExplained (title_with_words (codes "What the rules come to") (codes "cover " ++ shell_word file))
+    (GivesCover s) (ExplainsCover s))
 
--- what identifies a row
+-- what identifies a row, and why
 abbrev pub KeysSection : List ℕ → Schema → Shown
 KeysSection file s = Section (codes "Keys")
-    (Opens (title_with_words (codes "What identifies a row") (codes "keys " ++ shell_word file)) (ListsKeys s))
+    (OpensExplained (title_with_words (codes "What identifies a row") (codes "keys " ++ shell_word file))
+    (ListsKeys s) (ExplainsKeys s))
 
 -- rows that obey just what follows
 abbrev pub ExampleSection : List ℕ → Schema → Shown

@@ -18,10 +18,11 @@ use Rattle.desk_designs.specs.Designs.{IsSoundDesign, WritesForm, WritesPlan}
 use Rattle.desk_designs.specs.Joins.{JudgesJoin}
 use Rattle.desk_designs.specs.Keeping.{JudgesKeeping}
 use Rattle.desk_designs.specs.NormalForms.{JudgesForm, form_word}
+use Rattle.desk_designs.specs.SplitReasons.{ExplainsSplit}
 use Rattle.desk_designs.specs.Synthesis.{Synthesizes}
 use Rattle.desk_responses.specs.ResponseValues.{Allowed, ResponseValue}
 use Rattle.desk_reports.specs.Forms.{form_title}
-use Rattle.desk_reports.specs.Pieces.{Folds, Just, Opens, Section, Shown, Then}
+use Rattle.desk_reports.specs.Pieces.{Folds, FoldsReasons, Just, Opens, Section, Shown, Then}
 
 -- ---- the plan of a normal form
 -- the words that ask for the plan of a normal form
@@ -54,11 +55,11 @@ abbrev pub ShowsPicture : Schema → GivenNames → List AttrSet → Shown
 ShowsPicture s names plan text =
     (tables : List TableDesign) × IsSoundDesign s names plan tables × (text ≡ picture_text s tables)
 
--- of a plan of a normal form: the picture, the rules that are kept, and the SQL tables
+-- of a plan of a normal form: how it comes about, the picture, the rules that are kept, and the SQL tables
 abbrev pub ShowsTables : List ℕ → Schema → Form → List AttrSet → Shown
 ShowsTables file s form plan =
-    Then (ShowsPicture s [] plan) (Then (Opens (codes "Rules that they keep") (JudgesKeeping s (schemes_of plan)))
-    (ShowsSql file s form))
+    Then (FoldsReasons (ExplainsSplit s form)) (Then (ShowsPicture s [] plan)
+    (Then (Opens (codes "Rules that they keep") (JudgesKeeping s (schemes_of plan))) (ShowsSql file s form)))
 
 -- the same, where there is such a plan; nothing where it is refused
 abbrev pub ShowsTablesIfAny : List ℕ → Schema → Form → Shown

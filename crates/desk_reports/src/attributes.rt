@@ -1,49 +1,48 @@
 //! The section on the attributes.
 
-ghost use Rattle.std.specs.Prelude.{◌≡◌, ◌++◌, ◌<◌, ℕ, codes, IfOk, IsTrue, OnOk};
+ghost use Rattle.std.specs.Prelude.{◌≡◌, ◌++◌, ◌<◌, ℕ, codes, IsTrue, OnOk};
 ghost use Rattle.attr_sets.specs.Sets.{attributes};
 ghost use Rattle.attr_sets.specs.declared.set.TheConstants.{MOST_ATTRIBUTES};
 ghost use Rattle.schema_model.specs.Schemas.{width_of};
+ghost use Rattle.schema_model.specs.Schemas.{Schema as Declared};
 ghost use Rattle.design_picture.specs.Picture.{texts_below};
-ghost use Rattle.desk_reports.specs.Attributes.{AreListedMembers, AttributesSection, ShowsAttributes, attribute_row, attributes_text, cell_text, key_cell, mark, members_of, missing_cell, name_cell, type_cell};
+ghost use Rattle.desk_reports.specs.Answers.{Adds, AreFoundKeys};
+ghost use Rattle.desk_reports.specs.Attributes.{AreListedMembers, AttributesSection, attribute_row, attributes_text, cell_text, key_cell, mark, members_of, missing_cell, name_cell, type_cell};
 ghost use Rattle.html_pages.specs.Escapes.{html_text};
 
+use crate::found::FoundKeys;
 use attr_sets::AttrSet;
 use byte_texts::add;
-use dep_model::{Failure, OutOfMemory};
+use dep_model::OutOfMemory;
 use desk_responses::put_name;
-use html_pages::{add_html, section};
-use key_listing::keys;
+use html_pages::{add_heading, add_html};
 use schema_model::Schema;
 use schema_printer::add_type_word;
 use std::alloc::Global;
 
-/// The section on the attributes of a schema.
-pub fn attributes_section(alloc: Global, schema: &Schema) -> Result<Vec<u8>, OutOfMemory>
-    ensures section { IfOk result (λ text. AttributesSection schema.now text.items) }
+/// Adds the section on the attributes of a schema, of which these are the keys.
+pub fn put_attributes_section(
+    alloc: Global,
+    text: &mut Vec<u8>,
+    schema: &Schema,
+    keys: &FoundKeys,
+) -> Result<(), OutOfMemory>
+    requires keys { AreFoundKeys schema.now keys.now }
+    ensures added { OnOk result (Adds (AttributesSection schema.now) text.old.items text.new.items) }
 {
-    let pieces = attributes_table(alloc, schema)?;
-    let text = section(alloc, b"Attributes", &pieces)?;
-    Ok(text)
-}
-
-// A row for each attribute.
-fn attributes_table(alloc: Global, schema: &Schema) -> Result<Vec<u8>, OutOfMemory>
-    ensures rows { IfOk result (λ text. ShowsAttributes schema.now text.items) }
-{
-    let in_key = listed_members(alloc, schema)?;
-    let text = attribute_rows(alloc, schema, in_key)?;
-    Ok(text)
+    let in_key = listed_members(keys);
+    add_heading(text, b"Attributes")?;
+    put_attributes(alloc, text, schema, in_key)?;
+    Ok(())
 }
 
 // The members of the keys that are listed, none where the keys are refused.
-fn listed_members(alloc: Global, schema: &Schema) -> Result<AttrSet, OutOfMemory>
-    ensures members { IfOk result (λ found. AreListedMembers schema.now (attributes found)) }
+fn listed_members(keys: &FoundKeys) -> AttrSet
+    ensures members { (s : Declared) → AreFoundKeys s keys.now → AreListedMembers s (attributes result) }
 {
-    match keys(alloc, &schema.theory()) {
-        Ok(keys) => Ok(members_of(&keys)),
-        Err(Failure::Refused(_)) => Ok(AttrSet::empty()),
-        Err(Failure::OutOfMemory) => Err(OutOfMemory),
+    match keys {
+        FoundKeys::Listed(keys) => members_of(keys),
+        FoundKeys::Refused(_) => AttrSet::empty(),
     }
 }
 
@@ -59,15 +58,20 @@ fn members_of(sets: &[AttrSet]) -> AttrSet
     found
 }
 
+// Adds a row for each attribute, in a table.
 #[tactic(auto, unfolding(crate::specs::Attributes::attributes_text))]
-fn attribute_rows(alloc: Global, schema: &Schema, in_key: AttrSet) -> Result<Vec<u8>, OutOfMemory>
-    ensures text { IfOk result (λ text. text.items ≡ attributes_text schema.now (attributes in_key)) }
+fn put_attributes(
+    alloc: Global,
+    text: &mut Vec<u8>,
+    schema: &Schema,
+    in_key: AttrSet,
+) -> Result<(), OutOfMemory>
+    ensures added { OnOk result (text.new.items
+        ≡ text.old.items ++ attributes_text schema.now (attributes in_key)) }
 {
-    let mut text = Vec::new(alloc);
-    add(&mut text, b"<table>\n")?;
-    add_rows(alloc, &mut text, schema, in_key)?;
-    add(&mut text, b"</table>\n")?;
-    Ok(text)
+    add(text, b"<table>\n")?;
+    add_rows(alloc, text, schema, in_key)?;
+    add(text, b"</table>\n")
 }
 
 // Adds a row for each attribute.
@@ -82,32 +86,30 @@ fn add_rows(
         ++ texts_below (width_of schema.now) (attribute_row schema.now (attributes in_key))) }
 {
     for attribute in 0..schema.width() {
-        let row = attribute_row(alloc, schema, in_key, attribute)?;
-        add(text, &row)?;
+        add_row(alloc, text, schema, in_key, attribute)?;
     }
     Ok(())
 }
 
-// The row of an attribute.
+// Adds the row of an attribute.
 #[tactic(auto, unfolding(crate::specs::Attributes::attribute_row))]
-fn attribute_row(
+fn add_row(
     alloc: Global,
+    text: &mut Vec<u8>,
     schema: &Schema,
     in_key: AttrSet,
     attribute: u8,
-) -> Result<Vec<u8>, OutOfMemory>
+) -> Result<(), OutOfMemory>
     requires attribute { attribute < width_of schema.now }
-    ensures row { IfOk result
-        (λ text. text.items ≡ attribute_row schema.now (attributes in_key) attribute) }
+    ensures added { OnOk result (text.new.items
+        ≡ text.old.items ++ attribute_row schema.now (attributes in_key) attribute) }
 {
-    let mut text = Vec::new(alloc);
-    add(&mut text, b"<tr>")?;
-    add_name_cell(alloc, &mut text, schema, attribute)?;
-    add_type_cell(alloc, &mut text, schema, attribute)?;
-    add_missing_cell(&mut text, schema, attribute)?;
-    add_key_cell(&mut text, in_key, attribute)?;
-    add(&mut text, b"</tr>\n")?;
-    Ok(text)
+    add(text, b"<tr>")?;
+    add_name_cell(alloc, text, schema, attribute)?;
+    add_type_cell(alloc, text, schema, attribute)?;
+    add_missing_cell(text, schema, attribute)?;
+    add_key_cell(text, in_key, attribute)?;
+    add(text, b"</tr>\n")
 }
 
 // Adds the name of an attribute, as it is printed.

@@ -1,25 +1,27 @@
 //! The section on the normal forms of the universe.
 
-ghost use Rattle.std.specs.Prelude.{◌≡◌, ◌∷◌, ◌++◌, [], codes, IfOk};
+ghost use Rattle.std.specs.Prelude.{◌≡◌, ◌∷◌, ◌++◌, [], codes, IfOk, OnOk};
 ghost use Rattle.attr_sets.specs.Sets.{attributes};
 ghost use Rattle.attr_sets.specs.Attributes.{IsSubset};
-ghost use Rattle.dep_model.specs.Deps.{dependency_of};
+ghost use Rattle.dep_model.specs.Deps.{dependency_of, IsDepWithin};
 ghost use Rattle.dep_model.specs.Dependencies.{fd};
 ghost use Rattle.schema_model.specs.Schemas.{universe_of, theory_in};
 ghost use Rattle.html_pages.specs.Pages.{title_with_words};
 ghost use Rattle.plans.specs.Plans.{IsPlanOver, plan_of};
 ghost use Rattle.desk_designs.specs.NormalForms.{JudgesForm, tested_violation_of};
-ghost use Rattle.desk_reports.specs.Forms.{FormsSection, ShowsEachForm, ShowsForm, ShowsTwice, ShowsViolation, ShowsWhichForm, ShowsWhy, form_title, goal_text, goal_words, tested_title};
+ghost use Rattle.desk_reports.specs.Answers.{Adds};
+ghost use Rattle.desk_reports.specs.Forms.{FormsSection, ShowsEachForm, ShowsForm, ShowsLeftSide, ShowsViolation, ShowsWhichForm, ShowsWhy, form_title, functional_title, goal_text, goal_words, left_side_title, tested_title};
 ghost use Rattle.desk_reports.specs.Pieces.{Opens, Then};
 
-use crate::pieces::{both, folded, opened, title_of};
+use crate::pieces::{put_folded, put_opened, title_of};
 use arguments::Argument;
 use attr_sets::AttrSet;
 use byte_texts::add;
+use dep_basis::is_implied;
 use dep_model::{Dep, Form, OutOfMemory};
 use desk_designs::{check_form, form_of_all, tested_dependency};
 use desk_implication::implies;
-use html_pages::{add_shell_word, section, titled};
+use html_pages::{add_heading, add_shell_word, titled};
 use normal_forms::Breach;
 use plans::Plan;
 use schema_model::Schema;
@@ -27,82 +29,99 @@ use schema_printer::add_dep;
 use std::alloc::Global;
 use which_form::{TestedForm, tested_violation};
 
-/// The section on the normal forms of the universe of a schema.
-pub fn forms_section(
+/// Adds the section on the normal forms of the universe of a schema.
+pub fn put_forms_section(
     alloc: Global,
+    text: &mut Vec<u8>,
     schema: &Schema,
     file: &Argument,
-) -> Result<Vec<u8>, OutOfMemory>
-    ensures section { IfOk result (λ text. FormsSection file.now schema.now text.items) }
+) -> Result<(), OutOfMemory>
+    ensures added { OnOk result (Adds (FormsSection file.now schema.now) text.old.items text.new.items) }
 {
-    let which = shown_which_form(alloc, schema, file)?;
-    let each = shown_each_form(alloc, schema, file)?;
-    let pieces = both(which, &each)?;
-    let text = section(alloc, b"Normal forms", &pieces)?;
-    Ok(text)
+    add_heading(text, b"Normal forms")?;
+    put_which_form(alloc, text, schema, file)?;
+    put_each_form(alloc, text, schema, file)?;
+    Ok(())
 }
 
-// Which form the universe is in.
-fn shown_which_form(alloc: Global, schema: &Schema, file: &Argument) -> Result<Vec<u8>, OutOfMemory>
-    ensures shown { IfOk result (λ text. ShowsWhichForm file.now schema.now text.items) }
+// Adds which form the universe is in.
+fn put_which_form(
+    alloc: Global,
+    text: &mut Vec<u8>,
+    schema: &Schema,
+    file: &Argument,
+) -> Result<(), OutOfMemory>
+    ensures added { OnOk result (Adds (ShowsWhichForm file.now schema.now) text.old.items text.new.items) }
 {
     let title = title_of(alloc, b"Which form", b"form ", file)?;
-    let text = opened(alloc, &title, form_of_all(alloc, schema))?;
-    Ok(text)
+    put_opened(text, &title, form_of_all(alloc, schema))?;
+    Ok(())
 }
 
-// Whether the universe is in each of the forms.
-fn shown_each_form(alloc: Global, schema: &Schema, file: &Argument) -> Result<Vec<u8>, OutOfMemory>
-    ensures shown { IfOk result (λ text. ShowsEachForm file.now schema.now text.items) }
+// Adds whether the universe is in each of the forms.
+fn put_each_form(
+    alloc: Global,
+    text: &mut Vec<u8>,
+    schema: &Schema,
+    file: &Argument,
+) -> Result<(), OutOfMemory>
+    ensures added { OnOk result (Adds (ShowsEachForm file.now schema.now) text.old.items text.new.items) }
 {
-    let second = shown_form(alloc, schema, file, TestedForm::Second)?;
-    let third = shown_form(
+    put_form(alloc, text, schema, file, TestedForm::Second)?;
+    put_form(
         alloc,
+        text,
         schema,
         file,
         TestedForm::Higher { form: Form::Third },
     )?;
-    let bcnf = shown_form(alloc, schema, file, TestedForm::Higher { form: Form::Bcnf })?;
-    let fourth = shown_form(
+    put_form(
         alloc,
+        text,
+        schema,
+        file,
+        TestedForm::Higher { form: Form::Bcnf },
+    )?;
+    put_form(
+        alloc,
+        text,
         schema,
         file,
         TestedForm::Higher { form: Form::Fourth },
     )?;
-    let last = both(bcnf, &fourth)?;
-    let back = both(third, &last)?;
-    let text = both(second, &back)?;
-    Ok(text)
+    Ok(())
 }
 
-// Whether the universe is in a form, and why it is not.
-fn shown_form(
+// Adds whether the universe is in a form, and why it is not.
+fn put_form(
     alloc: Global,
+    text: &mut Vec<u8>,
     schema: &Schema,
     file: &Argument,
     form: TestedForm,
-) -> Result<Vec<u8>, OutOfMemory>
-    ensures shown { IfOk result (λ text. ShowsForm file.now schema.now form text.items) }
+) -> Result<(), OutOfMemory>
+    ensures added { OnOk result (Adds (ShowsForm file.now schema.now form) text.old.items text.new.items) }
 {
-    let judged = judged_form(alloc, schema, form)?;
-    let why = shown_violation(alloc, schema, file, form)?;
-    let text = both(judged, &why)?;
-    Ok(text)
+    put_judged(alloc, text, schema, form)?;
+    put_violation(alloc, text, schema, file, form)?;
+    Ok(())
 }
 
-// Whether the universe is in a form.
-fn judged_form(alloc: Global, schema: &Schema, form: TestedForm) -> Result<Vec<u8>, OutOfMemory>
-    ensures opens { IfOk result
-        (λ text. Opens (tested_title form) (JudgesForm schema.now form (universe_of schema.now ∷ []))
-        text.items) }
+// Adds whether the universe is in a form.
+fn put_judged(
+    alloc: Global,
+    text: &mut Vec<u8>,
+    schema: &Schema,
+    form: TestedForm,
+) -> Result<(), OutOfMemory>
+    ensures added { OnOk result
+        (Adds (Opens (tested_title form) (JudgesForm schema.now form (universe_of schema.now ∷ [])))
+        text.old.items text.new.items) }
 {
     let plan = plan_of_one(alloc, schema)?;
-    let text = opened(
-        alloc,
-        title_of_tested(form),
-        check_form(alloc, schema, form, &plan),
-    )?;
-    Ok(text)
+    let judged = check_form(alloc, schema, form, &plan);
+    put_opened(text, title_of_tested(form), judged)?;
+    Ok(())
 }
 
 // The plan of one scheme, the universe.
@@ -136,55 +155,61 @@ pub fn title_of_form(form: Form) -> &'static [u8]
     }
 }
 
-// Why the universe is not in a form; nothing where it is, or is too wide to be tested.
-fn shown_violation(
+// Adds why the universe is not in a form; nothing where it is, or is too wide to be tested.
+fn put_violation(
     alloc: Global,
+    text: &mut Vec<u8>,
     schema: &Schema,
     file: &Argument,
     form: TestedForm,
-) -> Result<Vec<u8>, OutOfMemory>
-    ensures shown { IfOk result (λ text. ShowsViolation file.now schema.now form text.items) }
+) -> Result<(), OutOfMemory>
+    ensures added { OnOk result
+        (Adds (ShowsViolation file.now schema.now form) text.old.items text.new.items) }
 {
     match tested_violation(&schema.theory(), AttrSet::full(schema.width()), form) {
-        Ok(None) => Ok(Vec::new(alloc)),
-        Ok(Some(breach)) => shown_breach(alloc, schema, file, form, breach),
-        Err(_) => Ok(Vec::new(alloc)),
+        Ok(None) => Ok(()),
+        Ok(Some(breach)) => put_breach(alloc, text, schema, file, form, breach),
+        Err(_) => Ok(()),
     }
 }
 
-// Why a violation is one.
-fn shown_breach(
+// Adds why a violation is one.
+fn put_breach(
     alloc: Global,
+    text: &mut Vec<u8>,
     schema: &Schema,
     file: &Argument,
     form: TestedForm,
     breach: Breach,
-) -> Result<Vec<u8>, OutOfMemory>
-    ensures shown { IfOk result
-        (λ text. Then (ShowsWhy file.now schema.now form (attributes breach.lhs) (attributes breach.rhs))
-        (ShowsTwice schema.now (attributes breach.lhs)) text.items) }
+) -> Result<(), OutOfMemory>
+    requires within { IsSubset (attributes breach.lhs) (universe_of schema.now) }
+    ensures added { OnOk result
+        (Adds (Then (ShowsWhy file.now schema.now form (attributes breach.lhs) (attributes breach.rhs))
+        (ShowsLeftSide schema.now form (attributes breach.lhs) (attributes breach.rhs)))
+        text.old.items text.new.items) }
 {
-    let why = shown_why(alloc, schema, file, form, breach)?;
-    let twice = shown_twice(alloc, schema, breach.lhs)?;
-    let text = both(why, &twice)?;
-    Ok(text)
+    put_why(alloc, text, schema, file, form, breach)?;
+    put_left_side(alloc, text, schema, form, breach)?;
+    Ok(())
 }
 
-// Whether the dependency that violates a form is implied.
-fn shown_why(
+// Adds whether the dependency that violates a form is implied.
+fn put_why(
     alloc: Global,
+    text: &mut Vec<u8>,
     schema: &Schema,
     file: &Argument,
     form: TestedForm,
     breach: Breach,
-) -> Result<Vec<u8>, OutOfMemory>
-    ensures shown { IfOk result
-        (λ text. ShowsWhy file.now schema.now form (attributes breach.lhs) (attributes breach.rhs) text.items) }
+) -> Result<(), OutOfMemory>
+    ensures added { OnOk result
+        (Adds (ShowsWhy file.now schema.now form (attributes breach.lhs) (attributes breach.rhs))
+        text.old.items text.new.items) }
 {
     let goal = goal_of(alloc, schema, tested_dependency(form, breach))?;
     let title = why_title(alloc, file, &goal)?;
-    let text = folded(alloc, &title, implies(alloc, schema, &goal))?;
-    Ok(text)
+    put_folded(text, &title, implies(alloc, schema, &goal))?;
+    Ok(())
 }
 
 // The title beside the words that ask for a goal.
@@ -200,21 +225,58 @@ fn why_title(alloc: Global, file: &Argument, goal: &Argument) -> Result<Vec<u8>,
     titled(alloc, b"Why", &words)
 }
 
-// Whether a left side determines all attributes.
-fn shown_twice(alloc: Global, schema: &Schema, lhs: AttrSet) -> Result<Vec<u8>, OutOfMemory>
-    ensures shown { IfOk result (λ text. ShowsTwice schema.now (attributes lhs) text.items) }
+// Adds whether the left side of a violation determines all attributes.
+fn put_left_side(
+    alloc: Global,
+    text: &mut Vec<u8>,
+    schema: &Schema,
+    form: TestedForm,
+    breach: Breach,
+) -> Result<(), OutOfMemory>
+    requires within { IsSubset (attributes breach.lhs) (universe_of schema.now) }
+    ensures added { OnOk result
+        (Adds (ShowsLeftSide schema.now form (attributes breach.lhs) (attributes breach.rhs))
+        text.old.items text.new.items) }
 {
-    let all = Dep::Fd {
+    let all = determining_all(schema, breach.lhs);
+    let is_key = is_implied(&schema.theory(), all);
+    let title = title_of_left_side(tested_dependency(form, breach), is_key);
+    let goal = goal_of(alloc, schema, all)?;
+    put_folded(text, title, implies(alloc, schema, &goal))?;
+    Ok(())
+}
+
+// A set determines all attributes.
+fn determining_all(schema: &Schema, lhs: AttrSet) -> Dep
+    ensures all { dependency_of result ≡ fd (attributes lhs) (universe_of schema.now) }
+    ensures within { IsSubset (attributes lhs) (universe_of schema.now)
+        → IsDepWithin (universe_of schema.now) result }
+{
+    Dep::Fd {
         lhs,
         rhs: AttrSet::full(schema.width()),
-    };
-    let goal = goal_of(alloc, schema, all)?;
-    let text = folded(
-        alloc,
-        b"Two rows that store it twice",
-        implies(alloc, schema, &goal),
-    )?;
-    Ok(text)
+    }
+}
+
+// The title above whether the left side of a violation determines all attributes, as it does or not.
+fn title_of_left_side(violation: Dep, is_key: bool) -> &'static [u8]
+    ensures title { result.now ≡ left_side_title (dependency_of violation) is_key }
+{
+    match violation {
+        Dep::Mvd { .. } => b"Two rows that agree on its left side",
+        Dep::Fd { .. } => functional_title(is_key),
+    }
+}
+
+// The same of a functional violation.
+fn functional_title(is_key: bool) -> &'static [u8]
+    ensures title { result.now ≡ functional_title is_key }
+{
+    if is_key {
+        b"Its left side is a key by all dependencies"
+    } else {
+        b"Two rows that store it twice"
+    }
 }
 
 // A dependency, as a goal.

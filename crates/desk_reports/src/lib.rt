@@ -8,7 +8,10 @@
 #![tactic(auto)]
 
 mod attributes;
+mod covers;
 mod forms;
+mod found;
+mod keys;
 mod pieces;
 mod planned;
 mod reports;

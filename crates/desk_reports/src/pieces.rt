@@ -1,20 +1,20 @@
 //! Pieces of a page: what a command prints, below a title.
 
-ghost use Rattle.std.specs.Prelude.{◌≡◌, ◌++◌, codes, IfOk};
+ghost use Rattle.std.specs.Prelude.{◌≡◌, ◌++◌, codes, IfOk, OnOk};
 ghost use Rattle.html_pages.specs.Commands.{shell_word};
-ghost use Rattle.html_pages.specs.Pages.{title_with_words};
-ghost use Rattle.desk_reports.specs.Answers.{FoldsText, IsTextOf, OpensText};
+ghost use Rattle.html_pages.specs.Pages.{folded_text, open_text, title_with_words};
+ghost use Rattle.desk_reports.specs.Answers.{Adds, FoldsText, IsTextOf, OpensText};
 ghost use Rattle.desk_reports.specs.Tables.{two_files};
 
 use arguments::Argument;
 use byte_texts::add;
 use dep_model::OutOfMemory;
 use desk_responses::{EarlyExit, Response};
-use html_pages::{add_shell_word, folded_piece, open_piece, titled};
+use html_pages::{add_folded_piece, add_open_piece, add_shell_word, titled};
 use std::alloc::Global;
 
-// The text of an answer; running out of memory is none.
-fn text_of(answer: Result<Response, EarlyExit>) -> Result<Vec<u8>, OutOfMemory>
+/// The text of an answer; running out of memory is none.
+pub fn text_of(answer: Result<Response, EarlyExit>) -> Result<Vec<u8>, OutOfMemory>
     ensures text { IfOk result (λ text. IsTextOf answer text.items) }
 {
     match answer {
@@ -37,30 +37,44 @@ fn response_text(response: Response) -> Vec<u8>
     text
 }
 
-/// The text of an answer, below a title.
-pub fn opened(
-    alloc: Global,
+/// Adds the text of an answer, below a title.
+pub fn put_opened(
+    text: &mut Vec<u8>,
     title: &[u8],
     answer: Result<Response, EarlyExit>,
-) -> Result<Vec<u8>, OutOfMemory>
-    ensures text { IfOk result (λ text. OpensText title.now answer text.items) }
+) -> Result<(), OutOfMemory>
+    ensures added { OnOk result (Adds (OpensText title.now answer) text.old.items text.new.items) }
 {
     let printed = text_of(answer)?;
-    let text = open_piece(alloc, title, &printed)?;
-    Ok(text)
+    add_open_piece(text, title, &printed)?;
+    Ok(())
 }
 
 /// The same, folded.
-pub fn folded(
-    alloc: Global,
+pub fn put_folded(
+    text: &mut Vec<u8>,
     title: &[u8],
     answer: Result<Response, EarlyExit>,
-) -> Result<Vec<u8>, OutOfMemory>
-    ensures text { IfOk result (λ text. FoldsText title.now answer text.items) }
+) -> Result<(), OutOfMemory>
+    ensures added { OnOk result (Adds (FoldsText title.now answer) text.old.items text.new.items) }
 {
     let printed = text_of(answer)?;
-    let text = folded_piece(alloc, title, &printed)?;
-    Ok(text)
+    add_folded_piece(text, title, &printed)?;
+    Ok(())
+}
+
+/// Adds a text that was printed, below a title, and then, folded, what explains it.
+pub fn put_explained(
+    text: &mut Vec<u8>,
+    title: &[u8],
+    printed: &[u8],
+    explained: &[u8],
+) -> Result<(), OutOfMemory>
+    ensures added { OnOk result (text.new.items ≡ text.old.items
+        ++ (open_text title.now printed.now ++ folded_text (codes "Why") explained.now)) }
+{
+    add_open_piece(text, title, printed)?;
+    add_folded_piece(text, b"Why", explained)
 }
 
 /// A title beside the words of a command on a file.
@@ -96,13 +110,4 @@ pub fn title_of_two(
     add(&mut whole, b" ")?;
     add_shell_word(&mut whole, plan_file.bytes())?;
     titled(alloc, title, &whole)
-}
-
-/// One text after another.
-pub fn both(front: Vec<u8>, back: &[u8]) -> Result<Vec<u8>, OutOfMemory>
-    ensures text { IfOk result (λ text. text.items ≡ front.items ++ back.now) }
-{
-    let mut text = front;
-    add(&mut text, back)?;
-    Ok(text)
 }

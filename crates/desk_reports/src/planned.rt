@@ -1,6 +1,6 @@
 //! The section on the tables of a plan of one's own.
 
-ghost use Rattle.std.specs.Prelude.{◌≡◌, ◌≤◌, codes, length, IfOk};
+ghost use Rattle.std.specs.Prelude.{◌≡◌, ◌≤◌, codes, length, OnOk};
 ghost use Rattle.dep_model.specs.Projections.{Covers};
 ghost use Rattle.schema_model.specs.Schemas.{width_of, theory_in};
 ghost use Rattle.plans.specs.Plans.{IsPlanOver, plan_of};
@@ -9,98 +9,102 @@ ghost use Rattle.desk_designs.specs.Joins.{JudgesJoin};
 ghost use Rattle.desk_designs.specs.Keeping.{JudgesKeeping};
 ghost use Rattle.desk_designs.specs.Designs.{WritesPlan};
 ghost use Rattle.html_pages.specs.Pages.{title_with_words};
+ghost use Rattle.desk_reports.specs.Answers.{Adds};
 ghost use Rattle.desk_reports.specs.Pieces.{Folds, Opens};
 ghost use Rattle.desk_reports.specs.Tables.{PlanSection, ShowsFormOf, ShowsFormsOf, ShowsJoinOf, ShowsUseOf, check_words, two_files};
 
 use crate::forms::title_of_form;
-use crate::pieces::{both, folded, opened, title_of_two};
-use crate::tables::shown_picture;
+use crate::pieces::{put_folded, put_opened, title_of_two};
+use crate::tables::put_picture;
 use arguments::Argument;
 use dep_model::{Form, OutOfMemory};
 use desk_designs::{check_form, check_join, check_keeps, write_plan};
-use html_pages::section;
+use html_pages::add_heading;
 use plan_printer::NamedPlan;
 use plans::{MOST_SCHEMES, Plan};
 use schema_model::Schema;
 use std::alloc::Global;
 use which_form::TestedForm;
 
-/// The section on the tables of a plan.
-pub fn plan_section(
+/// Adds the section on the tables of a plan.
+pub fn put_plan_section(
     alloc: Global,
+    text: &mut Vec<u8>,
     schema: &Schema,
     planned: &NamedPlan,
     file: &Argument,
     plan_file: &Argument,
-) -> Result<Vec<u8>, OutOfMemory>
+) -> Result<(), OutOfMemory>
     requires universe { IsPlanOver (theory_in schema.now) planned.now.plan }
     requires within_limit { length (plan_of planned.now.plan) ≤ MOST_SCHEMES }
     requires covers { Covers (width_of schema.now) (plan_of planned.now.plan) }
-    ensures section { IfOk result
-        (λ text. PlanSection file.now plan_file.now schema.now (named_schemes planned.now) text.items) }
+    ensures added { OnOk result
+        (Adds (PlanSection file.now plan_file.now schema.now (named_schemes planned.now))
+        text.old.items text.new.items) }
 {
-    let joined = shown_join(alloc, schema, planned, file, plan_file)?;
-    let forms = shown_forms(alloc, schema, &planned.plan, file, plan_file)?;
-    let used = shown_use(alloc, schema, planned, file, plan_file)?;
-    let back = both(forms, &used)?;
-    let pieces = both(joined, &back)?;
-    let text = section(alloc, b"Your tables", &pieces)?;
-    Ok(text)
+    add_heading(text, b"Your tables")?;
+    put_join(alloc, text, schema, planned, file, plan_file)?;
+    put_forms(alloc, text, schema, &planned.plan, file, plan_file)?;
+    put_use(alloc, text, schema, planned, file, plan_file)?;
+    Ok(())
 }
 
-// Whether the tables can be joined again, and their picture.
-fn shown_join(
+// Adds whether the tables can be joined again, and their picture.
+fn put_join(
     alloc: Global,
+    text: &mut Vec<u8>,
     schema: &Schema,
     planned: &NamedPlan,
     file: &Argument,
     plan_file: &Argument,
-) -> Result<Vec<u8>, OutOfMemory>
+) -> Result<(), OutOfMemory>
     requires universe { IsPlanOver (theory_in schema.now) planned.now.plan }
     requires within_limit { length (plan_of planned.now.plan) ≤ MOST_SCHEMES }
     requires covers { Covers (width_of schema.now) (plan_of planned.now.plan) }
-    ensures shown { IfOk result
-        (λ text. ShowsJoinOf file.now plan_file.now schema.now (named_schemes planned.now) text.items) }
+    ensures added { OnOk result
+        (Adds (ShowsJoinOf file.now plan_file.now schema.now (named_schemes planned.now))
+        text.old.items text.new.items) }
 {
     let title = title_of_two(alloc, b"Joined again", b"check join ", file, plan_file)?;
-    let joined = opened(alloc, &title, check_join(alloc, schema, &planned.plan))?;
-    let picture = shown_picture(alloc, schema, &planned.plan, &planned.names)?;
-    let text = both(joined, &picture)?;
-    Ok(text)
+    put_opened(text, &title, check_join(alloc, schema, &planned.plan))?;
+    put_picture(alloc, text, schema, &planned.plan, &planned.names)?;
+    Ok(())
 }
 
-// Whether the schemes are in each of the normal forms.
-fn shown_forms(
+// Adds whether the schemes are in each of the normal forms.
+fn put_forms(
     alloc: Global,
+    text: &mut Vec<u8>,
     schema: &Schema,
     plan: &Plan,
     file: &Argument,
     plan_file: &Argument,
-) -> Result<Vec<u8>, OutOfMemory>
+) -> Result<(), OutOfMemory>
     requires universe { IsPlanOver (theory_in schema.now) plan.now }
-    ensures shown { IfOk result
-        (λ text. ShowsFormsOf file.now plan_file.now schema.now (plan_of plan.now) text.items) }
+    ensures added { OnOk result
+        (Adds (ShowsFormsOf file.now plan_file.now schema.now (plan_of plan.now))
+        text.old.items text.new.items) }
 {
-    let third = shown_form_of(alloc, schema, plan, file, plan_file, Form::Third)?;
-    let bcnf = shown_form_of(alloc, schema, plan, file, plan_file, Form::Bcnf)?;
-    let fourth = shown_form_of(alloc, schema, plan, file, plan_file, Form::Fourth)?;
-    let back = both(bcnf, &fourth)?;
-    let text = both(third, &back)?;
-    Ok(text)
+    put_form_of(alloc, text, schema, plan, file, plan_file, Form::Third)?;
+    put_form_of(alloc, text, schema, plan, file, plan_file, Form::Bcnf)?;
+    put_form_of(alloc, text, schema, plan, file, plan_file, Form::Fourth)?;
+    Ok(())
 }
 
-// Whether the schemes are in a normal form.
-fn shown_form_of(
+// Adds whether the schemes are in a normal form.
+fn put_form_of(
     alloc: Global,
+    text: &mut Vec<u8>,
     schema: &Schema,
     plan: &Plan,
     file: &Argument,
     plan_file: &Argument,
     form: Form,
-) -> Result<Vec<u8>, OutOfMemory>
+) -> Result<(), OutOfMemory>
     requires universe { IsPlanOver (theory_in schema.now) plan.now }
-    ensures shown { IfOk result
-        (λ text. ShowsFormOf file.now plan_file.now schema.now (plan_of plan.now) form text.items) }
+    ensures added { OnOk result
+        (Adds (ShowsFormOf file.now plan_file.now schema.now (plan_of plan.now) form)
+        text.old.items text.new.items) }
 {
     let tested = TestedForm::Higher { form };
     let title = title_of_two(
@@ -110,8 +114,8 @@ fn shown_form_of(
         file,
         plan_file,
     )?;
-    let text = opened(alloc, &title, check_form(alloc, schema, tested, plan))?;
-    Ok(text)
+    put_opened(text, &title, check_form(alloc, schema, tested, plan))?;
+    Ok(())
 }
 
 // The words that ask whether the schemes are in a normal form.
@@ -125,19 +129,21 @@ fn words_for_check(form: Form) -> &'static [u8]
     }
 }
 
-// Whether the rules are kept, and the SQL tables.
-fn shown_use(
+// Adds whether the rules are kept, and the SQL tables.
+fn put_use(
     alloc: Global,
+    text: &mut Vec<u8>,
     schema: &Schema,
     planned: &NamedPlan,
     file: &Argument,
     plan_file: &Argument,
-) -> Result<Vec<u8>, OutOfMemory>
+) -> Result<(), OutOfMemory>
     requires universe { IsPlanOver (theory_in schema.now) planned.now.plan }
     requires within_limit { length (plan_of planned.now.plan) ≤ MOST_SCHEMES }
     requires covers { Covers (width_of schema.now) (plan_of planned.now.plan) }
-    ensures shown { IfOk result
-        (λ text. ShowsUseOf file.now plan_file.now schema.now (named_schemes planned.now) text.items) }
+    ensures added { OnOk result
+        (Adds (ShowsUseOf file.now plan_file.now schema.now (named_schemes planned.now))
+        text.old.items text.new.items) }
 {
     let keeping = title_of_two(
         alloc,
@@ -146,13 +152,9 @@ fn shown_use(
         file,
         plan_file,
     )?;
-    let kept = opened(alloc, &keeping, check_keeps(alloc, schema, &planned.plan))?;
+    put_opened(text, &keeping, check_keeps(alloc, schema, &planned.plan))?;
     let writing = title_of_two(alloc, b"SQL", b"ddl plan ", file, plan_file)?;
-    let sql = folded(
-        alloc,
-        &writing,
-        write_plan(alloc, schema, &planned.plan, &planned.names),
-    )?;
-    let text = both(kept, &sql)?;
-    Ok(text)
+    let written = write_plan(alloc, schema, &planned.plan, &planned.names);
+    put_folded(text, &writing, written)?;
+    Ok(())
 }

@@ -1,28 +1,28 @@
-ghost use Rattle.std.specs.Prelude.{◌≤◌, codes, length, IfOk};
+ghost use Rattle.std.specs.Prelude.{◌≤◌, codes, length, IfOk, OnOk};
 ghost use Rattle.dep_model.specs.Projections.{Covers};
 ghost use Rattle.schema_model.specs.Schemas.{width_of, theory_in};
 ghost use Rattle.html_pages.specs.Pages.{page_text};
 ghost use Rattle.plans.specs.Plans.{IsPlanOver, plan_of};
 ghost use Rattle.plan_printer.specs.NamedPlans.{named_schemes};
-ghost use Rattle.desk_reports.specs.Pieces.{Then};
-ghost use Rattle.desk_reports.specs.Reports.{CoverSection, ExampleSection, FrontSections, KeysSection, ReportsPlan, ReportsSchema, TablesSections};
-ghost use Rattle.desk_responses.specs.ResponseValues.{Says};
+ghost use Rattle.desk_reports.specs.Answers.{Adds, IsFoundCover};
+ghost use Rattle.desk_reports.specs.Reports.{ExampleSection, FrontSections, ReportsPlan, ReportsSchema, TablesSections};
 ghost use Rattle.desk_responses.specs.Responses.{RespondsAs, response_value};
 
-use crate::attributes::attributes_section;
-use crate::forms::forms_section;
-use crate::pieces::{both, opened, title_of};
-use crate::planned::plan_section;
-use crate::rules::rules_section;
-use crate::tables::tables_section;
+use crate::attributes::put_attributes_section;
+use crate::covers::put_cover_section;
+use crate::forms::put_forms_section;
+use crate::found::{find_cover, find_keys};
+use crate::keys::put_keys_section;
+use crate::pieces::{put_opened, title_of};
+use crate::planned::put_plan_section;
+use crate::rules::put_rules_section;
+use crate::tables::put_tables_section;
 use arguments::Argument;
-use byte_texts::add;
+use cover_accounts::CoverSteps;
 use dep_model::{Form, OutOfMemory};
-use desk_covers::cover;
 use desk_exhibits::exhibit_relation;
-use desk_keys::list_keys;
 use desk_responses::{EarlyExit, Response, Status};
-use html_pages::{close_page, open_page, section};
+use html_pages::{add_heading, close_page, open_page};
 use plan_printer::NamedPlan;
 use plans::MOST_SCHEMES;
 use schema_model::Schema;
@@ -39,13 +39,13 @@ fn schema_page(alloc: Global, schema: &Schema, file: &Argument) -> Result<Respon
     ensures response { IfOk result
         (λ response. ReportsSchema file.now schema.now (response_value response)) }
 {
-    let front = front_sections(alloc, schema, file)?;
-    let tables = tables_sections(alloc, schema, file)?;
-    let example = example_section(alloc, schema, file)?;
-    let back = both(tables, &example)?;
-    let sections = both(front, &back)?;
-    let response = page_response(alloc, file, &sections)?;
-    Ok(response)
+    let cover = find_cover(alloc, schema)?;
+    let mut text = open_page(alloc, file.bytes())?;
+    put_front_sections(alloc, &mut text, schema, file, &cover)?;
+    put_tables_sections(alloc, &mut text, schema, file, &cover)?;
+    put_example_section(alloc, &mut text, schema, file)?;
+    close_page(&mut text)?;
+    Ok(Response::with_text(Status::Yes, text))
 }
 
 /// The page of a schema and a plan, which are in files of these names.
@@ -79,65 +79,60 @@ fn plan_page(
         (λ response. ReportsPlan file.now plan_file.now schema.now (named_schemes planned.now)
         (response_value response)) }
 {
-    let front = front_sections(alloc, schema, file)?;
-    let tables = plan_section(alloc, schema, planned, file, plan_file)?;
-    let example = example_section(alloc, schema, file)?;
-    let back = both(tables, &example)?;
-    let sections = both(front, &back)?;
-    let response = page_response(alloc, file, &sections)?;
-    Ok(response)
-}
-
-// A page of the name of a file.
-fn page_response(alloc: Global, file: &Argument, sections: &[u8]) -> Result<Response, OutOfMemory>
-    ensures says { IfOk result
-        (λ response. Says Status.Yes (page_text file.now sections.now) (response_value response)) }
-{
+    let cover = find_cover(alloc, schema)?;
     let mut text = open_page(alloc, file.bytes())?;
-    add(&mut text, sections)?;
+    put_front_sections(alloc, &mut text, schema, file, &cover)?;
+    put_plan_section(alloc, &mut text, schema, planned, file, plan_file)?;
+    put_example_section(alloc, &mut text, schema, file)?;
     close_page(&mut text)?;
     Ok(Response::with_text(Status::Yes, text))
 }
 
-// The sections before those of tables.
-fn front_sections(alloc: Global, schema: &Schema, file: &Argument) -> Result<Vec<u8>, OutOfMemory>
-    ensures sections { IfOk result (λ text. FrontSections file.now schema.now text.items) }
+// Adds the sections before those of tables.
+fn put_front_sections(
+    alloc: Global,
+    text: &mut Vec<u8>,
+    schema: &Schema,
+    file: &Argument,
+    cover: &CoverSteps,
+) -> Result<(), OutOfMemory>
+    requires cover { IsFoundCover schema.now cover.now }
+    ensures added { OnOk result (Adds (FrontSections file.now schema.now) text.old.items text.new.items) }
 {
-    let attributes = attributes_section(alloc, schema)?;
-    let rules = rules_section(alloc, schema)?;
-    let cover = cover_section(alloc, schema, file)?;
-    let keys = keys_section(alloc, schema, file)?;
-    let forms = forms_section(alloc, schema, file)?;
-    let after_cover = both(keys, &forms)?;
-    let after_rules = both(cover, &after_cover)?;
-    let back = both(rules, &after_rules)?;
-    let text = both(attributes, &back)?;
-    Ok(text)
+    let keys = find_keys(alloc, schema)?;
+    put_attributes_section(alloc, text, schema, &keys)?;
+    put_rules_section(alloc, text, schema)?;
+    put_cover_section(alloc, text, schema, file, cover)?;
+    put_keys_section(alloc, text, schema, file, &keys)?;
+    put_forms_section(alloc, text, schema, file)?;
+    Ok(())
 }
 
-// What the rules come to.
-fn cover_section(alloc: Global, schema: &Schema, file: &Argument) -> Result<Vec<u8>, OutOfMemory>
-    ensures section { IfOk result (λ text. CoverSection file.now schema.now text.items) }
+// Adds the sections of the tables in each of the normal forms.
+fn put_tables_sections(
+    alloc: Global,
+    text: &mut Vec<u8>,
+    schema: &Schema,
+    file: &Argument,
+    cover: &CoverSteps,
+) -> Result<(), OutOfMemory>
+    requires cover { IsFoundCover schema.now cover.now }
+    ensures added { OnOk result (Adds (TablesSections file.now schema.now) text.old.items text.new.items) }
 {
-    let title = title_of(alloc, b"What the rules come to", b"cover ", file)?;
-    let pieces = opened(alloc, &title, cover(alloc, schema))?;
-    let text = section(alloc, b"Cover", &pieces)?;
-    Ok(text)
+    put_tables_section(alloc, text, schema, file, Form::Third, cover)?;
+    put_tables_section(alloc, text, schema, file, Form::Bcnf, cover)?;
+    put_tables_section(alloc, text, schema, file, Form::Fourth, cover)?;
+    Ok(())
 }
 
-// What identifies a row.
-fn keys_section(alloc: Global, schema: &Schema, file: &Argument) -> Result<Vec<u8>, OutOfMemory>
-    ensures section { IfOk result (λ text. KeysSection file.now schema.now text.items) }
-{
-    let title = title_of(alloc, b"What identifies a row", b"keys ", file)?;
-    let pieces = opened(alloc, &title, list_keys(alloc, schema))?;
-    let text = section(alloc, b"Keys", &pieces)?;
-    Ok(text)
-}
-
-// Rows that obey just what follows.
-fn example_section(alloc: Global, schema: &Schema, file: &Argument) -> Result<Vec<u8>, OutOfMemory>
-    ensures section { IfOk result (λ text. ExampleSection file.now schema.now text.items) }
+// Adds rows that obey just what follows.
+fn put_example_section(
+    alloc: Global,
+    text: &mut Vec<u8>,
+    schema: &Schema,
+    file: &Argument,
+) -> Result<(), OutOfMemory>
+    ensures added { OnOk result (Adds (ExampleSection file.now schema.now) text.old.items text.new.items) }
 {
     let title = title_of(
         alloc,
@@ -145,19 +140,7 @@ fn example_section(alloc: Global, schema: &Schema, file: &Argument) -> Result<Ve
         b"exhibit ",
         file,
     )?;
-    let pieces = opened(alloc, &title, exhibit_relation(alloc, schema))?;
-    let text = section(alloc, b"Example rows", &pieces)?;
-    Ok(text)
-}
-
-// The sections of the tables in each of the normal forms.
-fn tables_sections(alloc: Global, schema: &Schema, file: &Argument) -> Result<Vec<u8>, OutOfMemory>
-    ensures sections { IfOk result (λ text. TablesSections file.now schema.now text.items) }
-{
-    let third = tables_section(alloc, schema, file, Form::Third)?;
-    let bcnf = tables_section(alloc, schema, file, Form::Bcnf)?;
-    let fourth = tables_section(alloc, schema, file, Form::Fourth)?;
-    let back = both(bcnf, &fourth)?;
-    let text = both(third, &back)?;
-    Ok(text)
+    add_heading(text, b"Example rows")?;
+    put_opened(text, &title, exhibit_relation(alloc, schema))?;
+    Ok(())
 }

@@ -1,41 +1,54 @@
 //! The sections on the tables of the normal forms.
 
-ghost use Rattle.std.specs.Prelude.{◌≡◌, [], codes, IfOk};
+ghost use Rattle.std.specs.Prelude.{◌≡◌, [], ◌++◌, codes, OnOk};
+ghost use Rattle.design_picture.specs.Picture.{picture_text};
 ghost use Rattle.plans.specs.Plans.{IsPlanOver, plan_of, scheme_sets};
+ghost use Rattle.html_pages.specs.Commands.{shell_word};
+ghost use Rattle.html_pages.specs.Pages.{title_with_words};
+ghost use Rattle.desk_designs.specs.Decompositions.{IsPlanInForm};
+ghost use Rattle.desk_designs.specs.Designs.{IsSoundDesign};
 ghost use Rattle.desk_designs.specs.Keeping.{JudgesKeeping};
-ghost use Rattle.desk_reports.specs.Answers.{IsRefused};
-ghost use Rattle.desk_reports.specs.Pieces.{Opens};
-ghost use Rattle.desk_responses.specs.Responses.{RespondsAs};
+ghost use Rattle.desk_designs.specs.SplitReasons.{AreReasonsInForm, ExplainsSplit};
+ghost use Rattle.desk_reports.specs.Answers.{Adds, IsFoundCover};
+ghost use Rattle.desk_reports.specs.Pieces.{FoldsReasons, Opens, OpensExplained, Then};
+ghost use Rattle.desk_reports.specs.Tables.{GivesPlan, ShowsPicture, ShowsSql, ShowsTables, ShowsPlan, TablesSection, ddl_words, plan_words, tables_heading};
 ghost use Rattle.schema_model.specs.Schemas.{theory_in};
-ghost use Rattle.desk_reports.specs.Tables.{GivesPlan, ShowsPicture, ShowsSql, ShowsTables, ShowsTablesIfAny, ShowsPlan, TablesSection, ddl_words, plan_words, tables_heading};
 
-use crate::pieces::{both, folded, opened, title_of};
+use crate::pieces::{put_explained, put_folded, put_opened, title_of};
 use arguments::Argument;
+use byte_texts::add;
+use cover_accounts::CoverSteps;
+use ddl_text::DesignList;
 use dep_model::{Form, OutOfMemory};
 use design_picture::draw_design;
 use desk_designs::{
-    check_keeps, design_of_plan, plan_in_form, split_in_form, synthesize_plan, write_form,
+    ExplainedPlan, check_keeps, design_of_plan, explained_plan, print_explained, write_tables,
 };
-use desk_responses::{EarlyExit, Response};
-use html_pages::section;
+use html_pages::add_heading;
+use plan_printer::print_plan;
 use plans::Plan;
 use schema_model::{Name, Schema};
 use std::alloc::Global;
 
-/// The section on the tables of a normal form.
-pub fn tables_section(
+/// Adds the section on the tables of a normal form. Where their plan is refused, it says why, and nothing else.
+pub fn put_tables_section(
     alloc: Global,
+    text: &mut Vec<u8>,
     schema: &Schema,
     file: &Argument,
     form: Form,
-) -> Result<Vec<u8>, OutOfMemory>
-    ensures section { IfOk result (λ text. TablesSection file.now schema.now form text.items) }
+    cover: &CoverSteps,
+) -> Result<(), OutOfMemory>
+    requires cover { IsFoundCover schema.now cover.now }
+    ensures added { OnOk result
+        (Adds (TablesSection file.now schema.now form) text.old.items text.new.items) }
 {
-    let plan = shown_plan(alloc, schema, file, form)?;
-    let tables = shown_tables(alloc, schema, file, form)?;
-    let pieces = both(plan, &tables)?;
-    let text = section(alloc, heading_of(form), &pieces)?;
-    Ok(text)
+    let title = title_of(alloc, b"The tables", words_for_plan(form), file)?;
+    add_heading(text, heading_of(form))?;
+    match explained_plan(alloc, schema, form, &cover.whole) {
+        Ok(found) => put_tables(alloc, text, schema, file, form, &title, &found),
+        Err(exit) => put_opened(text, &title, Err(exit)),
+    }
 }
 
 // The heading of the section of a normal form.
@@ -71,117 +84,99 @@ fn words_for_sql(form: Form) -> &'static [u8]
     }
 }
 
-// The plan of a normal form.
-fn shown_plan(
+// Adds the plan of a normal form, how it comes about, and what is said of its tables.
+fn put_tables(
     alloc: Global,
+    text: &mut Vec<u8>,
     schema: &Schema,
     file: &Argument,
     form: Form,
-) -> Result<Vec<u8>, OutOfMemory>
-    ensures shown { IfOk result (λ text. ShowsPlan file.now schema.now form text.items) }
+    title: &[u8],
+    found: &ExplainedPlan,
+) -> Result<(), OutOfMemory>
+    requires plan { IsPlanInForm schema.now form (scheme_sets found.now.plan) }
+    requires universe { IsPlanOver (theory_in schema.now) found.now.plan }
+    requires reasons { AreReasonsInForm schema.now form found.now.reasons.items }
+    ensures added { OnOk result (Adds (Then (Opens title.now (GivesPlan schema.now form))
+        (ShowsTables file.now schema.now form (scheme_sets found.now.plan))) text.old.items text.new.items) }
 {
-    let title = title_of(alloc, b"The tables", words_for_plan(form), file)?;
-    let text = opened(alloc, &title, give_plan(alloc, schema, form))?;
-    Ok(text)
+    put_plan(alloc, text, schema, form, title, found)?;
+    let tables = design_of_plan(alloc, schema, &found.plan, &[])?;
+    put_drawing(alloc, text, schema, &tables)?;
+    let kept = check_keeps(alloc, schema, &found.plan);
+    put_opened(text, b"Rules that they keep", kept)?;
+    put_sql(alloc, text, schema, file, form, found, &tables)?;
+    Ok(())
 }
 
-// The answer to the words that ask for the plan of a normal form.
-fn give_plan(alloc: Global, schema: &Schema, form: Form) -> Result<Response, EarlyExit>
-    ensures response { RespondsAs (GivesPlan schema.now form) result }
-{
-    match form {
-        Form::Third => synthesize_plan(alloc, schema),
-        Form::Bcnf => split_in_form(alloc, schema, Form::Bcnf),
-        Form::Fourth => split_in_form(alloc, schema, Form::Fourth),
-    }
-}
-
-// What is said of the plan of a normal form, where there is one; nothing where it is refused.
-fn shown_tables(
+// Adds the plan of a normal form, and how it comes about.
+fn put_plan(
     alloc: Global,
+    text: &mut Vec<u8>,
     schema: &Schema,
-    file: &Argument,
     form: Form,
-) -> Result<Vec<u8>, OutOfMemory>
-    ensures shown { IfOk result (λ text. ShowsTablesIfAny file.now schema.now form text.items) }
+    title: &[u8],
+    found: &ExplainedPlan,
+) -> Result<(), OutOfMemory>
+    requires plan { IsPlanInForm schema.now form (scheme_sets found.now.plan) }
+    requires universe { IsPlanOver (theory_in schema.now) found.now.plan }
+    requires reasons { AreReasonsInForm schema.now form found.now.reasons.items }
+    ensures added { OnOk result
+        (Adds (OpensExplained title.now (GivesPlan schema.now form) (ExplainsSplit schema.now form))
+        text.old.items text.new.items) }
 {
-    match plan_in_form(alloc, schema, form) {
-        Ok(plan) => shown_tables_of(alloc, schema, file, form, &plan),
-        Err(exit) => { nothing_shown(alloc, exit) }
-    }
+    let plain = print_plan(alloc, schema, &found.plan)?;
+    let explained = print_explained(alloc, schema, found)?;
+    put_explained(text, title, &plain, &explained)?;
+    Ok(())
 }
 
-// Nothing, where a plan was refused; running out of memory is no refusal.
-fn nothing_shown(alloc: Global, exit: EarlyExit) -> Result<Vec<u8>, OutOfMemory>
-    ensures nothing { IfOk result (λ text. text.items ≡ []) }
-    ensures refused { IfOk result (λ _. IsRefused exit) }
-{
-    match exit {
-        EarlyExit::Answered(_) => Ok(Vec::new(alloc)),
-        EarlyExit::OutOfMemory => Err(OutOfMemory),
-    }
-}
-
-// The picture of a plan, the rules that it keeps, and the SQL tables of the normal form.
-fn shown_tables_of(
+// Adds the picture of the tables of a design.
+fn put_drawing(
     alloc: Global,
+    text: &mut Vec<u8>,
     schema: &Schema,
-    file: &Argument,
-    form: Form,
-    plan: &Plan,
-) -> Result<Vec<u8>, OutOfMemory>
-    requires universe { IsPlanOver (theory_in schema.now) plan.now }
-    ensures shown { IfOk result
-        (λ text. ShowsTables file.now schema.now form (scheme_sets plan.now) text.items) }
+    tables: &DesignList,
+) -> Result<(), OutOfMemory>
+    ensures added { OnOk result (text.new.items ≡ text.old.items ++ picture_text schema.now tables.now) }
 {
-    let picture = shown_picture(alloc, schema, plan, &[])?;
-    let kept = shown_keeping(alloc, schema, plan)?;
-    let sql = shown_sql(alloc, schema, file, form)?;
-    let back = both(kept, &sql)?;
-    let text = both(picture, &back)?;
-    Ok(text)
+    let drawing = draw_design(alloc, schema, tables)?;
+    add(text, &drawing)
 }
 
-/// The picture of the tables of a plan, whose names come in the order of its design.
-pub fn shown_picture(
+/// Adds the picture of the tables of a plan, whose names come in the order of its design.
+pub fn put_picture(
     alloc: Global,
+    text: &mut Vec<u8>,
     schema: &Schema,
     plan: &Plan,
     names: &[Option<Name>],
-) -> Result<Vec<u8>, OutOfMemory>
+) -> Result<(), OutOfMemory>
     requires universe { IsPlanOver (theory_in schema.now) plan.now }
-    ensures shown { IfOk result
-        (λ text. ShowsPicture schema.now names.now (scheme_sets plan.now) text.items) }
+    ensures added { OnOk result (Adds (ShowsPicture schema.now names.now (scheme_sets plan.now))
+        text.old.items text.new.items) }
 {
     let tables = design_of_plan(alloc, schema, plan, names)?;
-    let text = draw_design(alloc, schema, &tables)?;
-    Ok(text)
+    put_drawing(alloc, text, schema, &tables)?;
+    Ok(())
 }
 
-// Whether a plan keeps the rules.
-fn shown_keeping(alloc: Global, schema: &Schema, plan: &Plan) -> Result<Vec<u8>, OutOfMemory>
-    requires universe { IsPlanOver (theory_in schema.now) plan.now }
-    ensures opens { IfOk result (λ text. Opens (codes "Rules that they keep")
-        (JudgesKeeping schema.now (plan_of plan.now)) text.items) }
-{
-    let text = opened(
-        alloc,
-        b"Rules that they keep",
-        check_keeps(alloc, schema, plan),
-    )?;
-    Ok(text)
-}
-
-// The SQL tables of a normal form.
-fn shown_sql(
+// Adds the SQL tables of a normal form, whose plan has this design.
+fn put_sql(
     alloc: Global,
+    text: &mut Vec<u8>,
     schema: &Schema,
     file: &Argument,
     form: Form,
-) -> Result<Vec<u8>, OutOfMemory>
-    ensures folds { IfOk result (λ text. ShowsSql file.now schema.now form text.items) }
+    found: &ExplainedPlan,
+    tables: &DesignList,
+) -> Result<(), OutOfMemory>
+    requires plan { IsPlanInForm schema.now form (scheme_sets found.now.plan) }
+    requires sound { IsSoundDesign schema.now [] (scheme_sets found.now.plan) tables.now }
+    ensures added { OnOk result
+        (Adds (ShowsSql file.now schema.now form) text.old.items text.new.items) }
 {
     let title = title_of(alloc, b"SQL", words_for_sql(form), file)?;
-    let text = folded(alloc, &title, write_form(alloc, schema, form))?;
-    Ok(text)
+    put_folded(text, &title, write_tables(alloc, schema, tables))?;
+    Ok(())
 }

@@ -1,6 +1,8 @@
 -- A command of the code, as its form: for `parse`. `Desk` does not cite it.
 use Rattle.desk_words.specs.declared.command.Command.{Command}
 use Rattle.desk_words.specs.declared.command.Command.TheVariants.{OverSchema, Discover, ImportCsv, ImportSql, Sample, Help, Version, DiscoverAll, DiscoverReferences, CheckReferences}
+use Rattle.desk_words.specs.declared.questions.PairQuestion.{PairQuestion}
+use Rattle.desk_words.specs.declared.questions.PairQuestion.TheVariants as pair
 use Rattle.desk_words.specs.declared.questions.PlanQuestion.{PlanQuestion}
 use Rattle.desk_words.specs.declared.questions.PlanQuestion.TheVariants as plan
 use Rattle.desk_words.specs.declared.questions.RowsQuestion.{RowsQuestion}
@@ -16,6 +18,7 @@ use Rattle.desk_words.specs.Forms as form
 abbrev pub schema_question : SchemaQuestion → form.SchemaQuestion
 schema_question (schema.Implies goal) = form.implies goal.now
 schema_question schema.Cover = form.cover
+schema_question schema.CoverCanonical = form.cover_canonical
 schema_question (schema.Basis set) = form.basis set.now
 schema_question (schema.Closure set) = form.closure set.now
 schema_question (schema.Project set) = form.project set.now
@@ -27,6 +30,7 @@ schema_question schema.SynthesizeFewest = form.synthesize_fewest
 schema_question (schema.Split normal) = form.split normal
 schema_question schema.SplitWide = form.split_wide
 schema_question schema.Exhibit = form.exhibit
+schema_question (schema.ExplainImplies goal) = form.explain_implies goal.now
 schema_question schema.ExplainCover = form.explain_cover
 schema_question schema.ExplainKeys = form.explain_keys
 schema_question schema.ExplainSynthesize = form.explain_synthesize
@@ -47,6 +51,11 @@ plan_question plan.Forms = form.forms_of_plan
 plan_question plan.Ddl = form.ddl_plan
 plan_question (plan.SqlMigrate name) = form.sql_migrate_plan name.now
 plan_question plan.Draw = form.draw_plan
+
+abbrev pub pair_question : PairQuestion → form.PairQuestion
+pair_question pair.CheckSame = form.check_same
+pair_question pair.CheckCover = form.check_cover
+pair_question pair.CheckCoverCanonical = form.check_cover_canonical
 
 abbrev pub rows_question : RowsQuestion → form.RowsQuestion
 rows_question rows.CheckRows = form.check_rows
@@ -71,8 +80,7 @@ task_form (task.MigrateInto file normal folder) = form.migrate_into file.now nor
 task_form (task.MigratePlanInto plan file folder) = form.migrate_plan_into plan.now file.now folder.now
 task_form (task.CheckProof file goal) = form.check_proof file.now goal.now
 task_form (task.CheckDerivation file goal) = form.check_derivation file.now goal.now
-task_form (task.CheckSame file other) = form.check_same file.now other.now
-task_form (task.CheckCover file other) = form.check_cover file.now other.now
+task_form (task.OfPair file other question) = form.of_pair file.now other.now (pair_question question)
 task_form (task.Rejoin files) = form.rejoin files.now
 task_form (task.Report file) = form.report file.now
 task_form (task.ReportPlan file plan) = form.report_plan file.now plan.now

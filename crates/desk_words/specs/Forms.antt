@@ -19,6 +19,8 @@ pub data SchemaQuestion : Type 0 where
   implies : List ℕ → SchemaQuestion
   -- its cover
   cover : SchemaQuestion
+  -- its cover, with one functional dependency for each left side
+  cover_canonical : SchemaQuestion
   -- what a set of attributes determines, and its blocks
   basis : List ℕ → SchemaQuestion
   -- how the closure of a set of attributes comes about
@@ -41,6 +43,8 @@ pub data SchemaQuestion : Type 0 where
   split_wide : SchemaQuestion
   -- a relation that obeys just what it implies
   exhibit : SchemaQuestion
+  -- whether it implies a goal, with a short derivation
+  explain_implies : List ℕ → SchemaQuestion
   -- its cover, and how that comes about
   explain_cover : SchemaQuestion
   -- its keys, what they have in common, and what is in none of them
@@ -80,6 +84,15 @@ pub data PlanQuestion : Type 0 where
   sql_migrate_plan : List ℕ → PlanQuestion
   -- a picture of its tables
   draw_plan : PlanQuestion
+
+-- what is asked of a schema and another
+pub data PairQuestion : Type 0 where
+  -- whether the two say the same
+  check_same : PairQuestion
+  -- whether the other is a minimal cover of it
+  check_cover : PairQuestion
+  -- whether the other is a canonical cover of it
+  check_cover_canonical : PairQuestion
 
 -- what is asked of a schema and rows
 pub data RowsQuestion : Type 0 where
@@ -125,10 +138,8 @@ pub data Task : Type 0 where
   check_proof : List ℕ → List ℕ → Task
   -- whether the derivation of a file ends with a goal
   check_derivation : List ℕ → List ℕ → Task
-  -- whether it, in the first file, says the same as the schema of a second file
-  check_same : List ℕ → List ℕ → Task
-  -- whether the schema of a second file is a minimal cover of it, in the first file
-  check_cover : List ℕ → List ℕ → Task
+  -- a question to it, in the first file, and the schema of a second file
+  of_pair : List ℕ → List ℕ → PairQuestion → Task
   -- the natural join of the tables of files
   rejoin : List (List ℕ) → Task
   -- a page of what is said of it, in the first file
@@ -197,9 +208,9 @@ schema_and_two task (schema ∷ first ∷ second ∷ []) = Some (over_schema sch
 schema_and_two task _ = None
 
 -- two schemas
-unfoldable pub two_schemas : (List ℕ → List ℕ → Task) → List (List ℕ) → Option CommandForm
-two_schemas task (schema ∷ other ∷ []) = Some (over_schema schema (task schema other))
-two_schemas task _ = None
+unfoldable pub two_schemas : PairQuestion → List (List ℕ) → Option CommandForm
+two_schemas question (schema ∷ other ∷ []) = Some (over_schema schema (of_pair schema other question))
+two_schemas question _ = None
 
 -- from one word to the most files
 abbrev pub are_one_to_64 : List (List ℕ) → Bool
@@ -256,6 +267,18 @@ after_check_form [] = None
 after_check_form (what ∷ rest) =
     option_and_then (λ form. schema_and_plan (check_form form) rest) (tested_form what)
 
+-- after `check cover`, a word and two schemas
+abbrev pub check_cover_after_word : List ℕ → List ℕ → List ℕ → Option CommandForm
+check_cover_after_word what schema other =
+    if bytes_eq what (codes "canonical") then Some (over_schema schema (of_pair schema other check_cover_canonical))
+    else None
+
+-- after `check cover`
+unfoldable pub after_check_cover : List (List ℕ) → Option CommandForm
+after_check_cover (schema ∷ other ∷ []) = Some (over_schema schema (of_pair schema other check_cover))
+after_check_cover (what ∷ schema ∷ other ∷ []) = check_cover_after_word what schema other
+after_check_cover _ = None
+
 -- after `check`
 unfoldable pub after_check : List (List ℕ) → Option CommandForm
 after_check [] = None
@@ -268,9 +291,20 @@ after_check (what ∷ rest) =
     else if bytes_eq what (codes "form") then after_check_form rest
     else if bytes_eq what (codes "keeps") then schema_and_plan check_keeps rest
     else if bytes_eq what (codes "same") then two_schemas check_same rest
-    else if bytes_eq what (codes "cover") then two_schemas check_cover rest
+    else if bytes_eq what (codes "cover") then after_check_cover rest
     else if bytes_eq what (codes "references") then two_named_files check_references rest
     else None
+
+-- after `cover`, a word and a schema
+abbrev pub cover_after_word : List ℕ → List ℕ → Option CommandForm
+cover_after_word what schema =
+    if bytes_eq what (codes "canonical") then Some (over_schema schema (of_schema cover_canonical)) else None
+
+-- after `cover`
+unfoldable pub after_cover : List (List ℕ) → Option CommandForm
+after_cover (schema ∷ []) = Some (over_schema schema (of_schema cover))
+after_cover (what ∷ schema ∷ []) = cover_after_word what schema
+after_cover _ = None
 
 -- after `keys`
 unfoldable pub after_keys : List (List ℕ) → Option CommandForm
@@ -327,7 +361,8 @@ after_explain_split (what ∷ rest) =
 unfoldable pub after_explain : List (List ℕ) → Option CommandForm
 after_explain [] = None
 after_explain (what ∷ rest) =
-    if bytes_eq what (codes "cover") then schema_alone explain_cover rest
+    if bytes_eq what (codes "implies") then schema_and_word explain_implies rest
+    else if bytes_eq what (codes "cover") then schema_alone explain_cover rest
     else if bytes_eq what (codes "keys") then schema_alone explain_keys rest
     else if bytes_eq what (codes "synthesize") then after_explain_synthesize rest
     else if bytes_eq what (codes "split") then after_explain_split rest
@@ -448,7 +483,7 @@ unfoldable pub form_over_schema : List ℕ → List (List ℕ) → Option Comman
 form_over_schema verb rest =
     if bytes_eq verb (codes "implies") then schema_and_word implies rest
     else if bytes_eq verb (codes "check") then after_check rest
-    else if bytes_eq verb (codes "cover") then schema_alone cover rest
+    else if bytes_eq verb (codes "cover") then after_cover rest
     else if bytes_eq verb (codes "basis") then schema_and_word basis rest
     else if bytes_eq verb (codes "closure") then schema_and_word closure rest
     else if bytes_eq verb (codes "project") then schema_and_word project rest

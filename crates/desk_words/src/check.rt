@@ -5,9 +5,10 @@ ghost use Rattle.desk_words.specs.Commands.{command_form};
 ghost use Rattle.desk_words.specs.Forms as forms;
 
 use crate::command::Command;
-use crate::questions::{PlanQuestion, RowsQuestion, SchemaQuestion, Task};
+use crate::covers::after_check_cover;
+use crate::questions::{PairQuestion, PlanQuestion, RowsQuestion, SchemaQuestion, Task};
 use crate::references::after_check_references;
-use crate::shapes::{is_word, over, schema_and_plan, schema_and_rows, tested_form};
+use crate::shapes::{is_word, over, schema_and_plan, schema_and_rows, tested_form, two_schemas};
 use arguments::Argument;
 
 /// After `check`.
@@ -40,7 +41,7 @@ pub fn after_check(words: &[Argument]) -> Option<Command<'_>>
         return schema_and_plan(PlanQuestion::CheckKeeps, rest);
     }
     if is_word(what, b"same") {
-        return after_check_same(rest);
+        return two_schemas(PairQuestion::CheckSame, rest);
     }
     if is_word(what, b"cover") {
         return after_check_cover(rest);
@@ -101,39 +102,5 @@ fn after_check_form(words: &[Argument]) -> Option<Command<'_>>
     match tested_form(what) {
         Some(form) => schema_and_plan(PlanQuestion::CheckForm { form }, rest),
         None => None,
-    }
-}
-
-// Two schemas.
-#[tactic(auto, unfolding(crate::specs::Forms::two_schemas))]
-fn after_check_same(words: &[Argument]) -> Option<Command<'_>>
-    ensures form { option_map command_form result ≡ forms.two_schemas forms.check_same words.now }
-{
-    match words {
-        [schema, other] => over(
-            schema,
-            Task::CheckSame {
-                file: schema,
-                other,
-            },
-        ),
-        _ => None,
-    }
-}
-
-// Two schemas.
-#[tactic(auto, unfolding(crate::specs::Forms::two_schemas))]
-fn after_check_cover(words: &[Argument]) -> Option<Command<'_>>
-    ensures form { option_map command_form result ≡ forms.two_schemas forms.check_cover words.now }
-{
-    match words {
-        [schema, other] => over(
-            schema,
-            Task::CheckCover {
-                file: schema,
-                other,
-            },
-        ),
-        _ => None,
     }
 }

@@ -3,6 +3,7 @@ ghost use Rattle.desk_words.specs.Commands.{command_form};
 ghost use Rattle.desk_words.specs.Forms as forms;
 
 use crate::check::after_check;
+use crate::covers::after_cover;
 use crate::explain::after_explain;
 use crate::imports::after_import;
 use crate::pages::after_report;
@@ -123,7 +124,7 @@ fn over_schema<'a>(verb: &Argument, rest: &'a [Argument]) -> Option<Command<'a>>
         return after_check(rest);
     }
     if is_word(verb, b"cover") {
-        return schema_alone(SchemaQuestion::Cover, rest);
+        return after_cover(rest);
     }
     if is_word(verb, b"basis") {
         return after_basis(rest);

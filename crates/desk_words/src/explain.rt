@@ -18,6 +18,9 @@ pub fn after_explain(words: &[Argument]) -> Option<Command<'_>>
     let [what, rest @ ..] = words else {
         return None;
     };
+    if is_word(what, b"implies") {
+        return after_explain_implies(rest);
+    }
     if is_word(what, b"cover") {
         return schema_alone(SchemaQuestion::ExplainCover, rest);
     }
@@ -31,6 +34,23 @@ pub fn after_explain(words: &[Argument]) -> Option<Command<'_>>
         return after_explain_split(rest);
     }
     None
+}
+
+// A schema and a goal.
+#[tactic(auto, unfolding(crate::specs::Forms::schema_and_word))]
+fn after_explain_implies(words: &[Argument]) -> Option<Command<'_>>
+    ensures form { option_map command_form result
+        ≡ forms.schema_and_word forms.explain_implies words.now }
+{
+    match words {
+        [schema, goal] => over(
+            schema,
+            Task::OfSchema {
+                question: SchemaQuestion::ExplainImplies { goal },
+            },
+        ),
+        _ => None,
+    }
 }
 
 // After `explain synthesize`.

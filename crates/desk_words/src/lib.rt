@@ -7,6 +7,7 @@
 mod bounds;
 mod check;
 mod command;
+mod covers;
 mod explain;
 mod imports;
 mod migrate;
@@ -23,4 +24,6 @@ mod tables;
 
 pub use bounds::{LeftBound, MOST_ON_LEFT};
 pub use command::{Command, MOST_FILES, parse};
-pub use questions::{PlanQuestion, RowsQuestion, RulesQuestion, SchemaQuestion, Task};
+pub use questions::{
+    PairQuestion, PlanQuestion, RowsQuestion, RulesQuestion, SchemaQuestion, Task,
+};

@@ -10,6 +10,8 @@ pub enum SchemaQuestion<'a> {
     Implies { goal: &'a Argument },
     /// What says the same, shortened.
     Cover,
+    /// What says the same, shortened, with one functional dependency for each left side.
+    CoverCanonical,
     /// What a set of attributes determines, and its blocks.
     Basis { set: &'a Argument },
     /// How the closure of a set of attributes comes about.
@@ -32,6 +34,8 @@ pub enum SchemaQuestion<'a> {
     SplitWide,
     /// A relation that obeys just what it implies.
     Exhibit,
+    /// Whether it implies a goal, with a short derivation.
+    ExplainImplies { goal: &'a Argument },
     /// What says the same, shortened, and how that comes about.
     ExplainCover,
     /// All its keys, what they have in common, and what is in none of them.
@@ -73,6 +77,17 @@ pub enum PlanQuestion<'a> {
     SqlMigrate { name: &'a Argument },
     /// A picture of its tables.
     Draw,
+}
+
+/// What is asked of a schema and another.
+#[derive(Clone, Copy, Debug)]
+pub enum PairQuestion {
+    /// Whether the two say the same.
+    CheckSame,
+    /// Whether the other is a minimal cover of it.
+    CheckCover,
+    /// Whether the other is a canonical cover of it.
+    CheckCoverCanonical,
 }
 
 /// What is asked of a schema and rows.
@@ -156,15 +171,11 @@ pub enum Task<'a> {
         file: &'a Argument,
         goal: &'a Argument,
     },
-    /// Whether it, in the first file, says the same as the schema of a second file.
-    CheckSame {
+    /// A question to it, in the first file, and the schema of a second file.
+    OfPair {
         file: &'a Argument,
         other: &'a Argument,
-    },
-    /// Whether the schema of a second file is a minimal cover of it, in the first file.
-    CheckCover {
-        file: &'a Argument,
-        other: &'a Argument,
+        question: PairQuestion,
     },
     /// The natural join of the tables of files.
     Rejoin {

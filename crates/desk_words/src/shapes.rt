@@ -1,11 +1,11 @@
 //! What commands have in common: the words that stand after their own.
 
 ghost use Rattle.std.specs.Prelude.{◌≡◌, Some, bytes_eq, option_map};
-ghost use Rattle.desk_words.specs.Commands.{command_form, plan_question, rows_question, schema_question, task_form};
+ghost use Rattle.desk_words.specs.Commands.{command_form, pair_question, plan_question, rows_question, schema_question, task_form};
 ghost use Rattle.desk_words.specs.Forms as forms;
 
 use crate::command::Command;
-use crate::questions::{PlanQuestion, RowsQuestion, SchemaQuestion, Task};
+use crate::questions::{PairQuestion, PlanQuestion, RowsQuestion, SchemaQuestion, Task};
 use arguments::Argument;
 use dep_model::Form;
 use which_form::TestedForm;
@@ -76,6 +76,25 @@ pub fn schema_and_plan<'a>(question: PlanQuestion<'a>, words: &'a [Argument]) ->
 {
     match words {
         [schema, plan] => over(schema, Task::OfPlan { plan, question }),
+        _ => None,
+    }
+}
+
+/// Two schemas.
+#[tactic(auto, unfolding(crate::specs::Forms::two_schemas))]
+pub fn two_schemas(question: PairQuestion, words: &[Argument]) -> Option<Command<'_>>
+    ensures form { option_map command_form result
+        ≡ forms.two_schemas (pair_question question) words.now }
+{
+    match words {
+        [schema, other] => over(
+            schema,
+            Task::OfPair {
+                file: schema,
+                other,
+                question,
+            },
+        ),
         _ => None,
     }
 }

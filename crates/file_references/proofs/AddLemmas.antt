@@ -4,7 +4,7 @@ use Rattle.std.proofs.Common.{inl, inr, ◌≡◌, ◌⊎◌, ℕ, List, [], ◌
 use Rattle.std.proofs.lemmas.List.{get_or-map, map-append}
 use Rattle.std.proofs.lemmas.List.Elements.{Contains-append_left, Contains-push, Contains-push_cases}
 use Rattle.file_references.specs.Columns.{file_at, no_file}
-use Rattle.file_references.specs.Finds.{Adds, IsThis, reference_of, refers_from}
+use Rattle.file_references.specs.Finds.{Adds, AreReferences, IsThis, reference_of, refers_from}
 use Rattle.file_references.specs.declared.reference.FoundReference.{FoundReference}
 use Rattle.file_references.specs.declared.targets.Target.{Target}
 use Rattle.file_references.specs.References.{IsReference, Reference}
@@ -66,6 +66,11 @@ pub adds_no_one : (files : List HeadedRows) (ref : Reference) (old : List Refere
     → Adds files (IsThis ref) old old
 adds_no_one files ref old never =
     adds_none files (IsThis ref) old (λ other is same. never (subst (IsReference files) same is))
+
+-- what was found is references still
+pub still_references : (files : List HeadedRows) (P : Reference → Type 0) (old new : List Reference) → AreReferences files old
+    → Adds files P old new → AreReferences files new
+still_references files P old new are adds = λ ref has. ⊎_elim (λ earlier. are ref earlier) (λ is. is) (adds.only ref has)
 
 -- a reference of the code was pushed
 pub pushed_reference : (old new : List FoundReference) (x : FoundReference) (file : ℕ) (columns : List ℕ) (target : Target)

@@ -1,13 +1,12 @@
 -- Rows that agree on a set of columns have the same values there, and miss as many.
-use Rattle.std.specs.Prelude.{All, Contains}
-use Rattle.std.specs.List.{list_all}
-use Rattle.std.proofs.Common.{inl, inr, ◌≡◌, ◌<◌, ◌&&◌, ℕ, true, List, [], ◌∷◌, length, map, get_or, refl, sym, ap, ◌∙◌, arith, ltb-true}
+use Rattle.std.specs.Prelude.{Contains}
+use Rattle.std.proofs.Common.{inl, inr, ◌≡◌, ◌<◌, ℕ, true, List, [], ◌∷◌, length, map, get_or, refl, sym, ap, ◌∙◌, arith, ltb-true}
 use Rattle.std.proofs.lemmas.Bool.{and_parts}
 use Rattle.std.proofs.lemmas.List.{get_or-map}
 use Rattle.attr_sets.specs.Attributes.{Attributes, IsSubset, below, count_below}
 use Rattle.attr_sets.proofs.AttributesLemmas.{count_below-before_member}
 use Rattle.dep_model.specs.Projections.{members_below}
-use Rattle.dep_model.specs.Tuples.{Tuple, Relation, AgreeOn, value_at}
+use Rattle.dep_model.specs.Tuples.{Tuple, AgreeOn, value_at}
 use Rattle.dep_model.proofs.ListLemmas.{Contains-cases, Contains-head, Contains-later}
 use Rattle.dep_model.proofs.SchemeLemmas.{length-members_below, members_below-at}
 use Rattle.file_references.specs.Columns.{is_there, misses_none, values_on}

@@ -1,25 +1,27 @@
 -- The targets of a file, one set of columns after the other, and one size after the other.
-use Rattle.std.specs.Prelude.{◌↔◌, All, Any, Contains, IsTrue, MatchBool}
-use Rattle.std.proofs.Common.{inl, inr, ◌≡◌, ◌+◌, ◌<◌, ◌≤◌, ◌⊎◌, ℕ, zero, suc, Bool, true, false, List, [], ◌∷◌, ◌++◌, length, take, get_or, Some, refl, sym, ap, subst, ◌∙◌, ⊎_elim, arith}
+use Rattle.std.specs.Prelude.{◌↔◌, Any, Contains, IsTrue, MatchBool}
+use Rattle.std.proofs.Common.{inl, inr, ◌≡◌, ◌+◌, ◌<◌, ◌≤◌, ◌⊎◌, ℕ, Bool, true, false, List, [], ◌∷◌, ◌++◌, length, take, get_or, Some, refl, sym, ap, subst, ◌∙◌, ⊎_elim, arith}
 use Rattle.std.proofs.lemmas.List.Elements.{AllZip-get_or, length_all_zip}
 use Rattle.std.proofs.lemmas.List.{take_more}
-use Rattle.attr_sets.specs.Attributes.{Attributes, IsSubset, below}
+use Rattle.attr_sets.specs.Attributes.{Attributes, IsSubset}
 use Rattle.attr_sets.specs.Sets.{attributes}
 use Rattle.attr_sets.specs.declared.set.AttrSet.{AttrSet}
 use Rattle.attr_sets.specs.declared.set.TheConstants.{MOST_ATTRIBUTES}
 use Rattle.dep_model.specs.Projections.{members_below}
-use Rattle.dep_model.specs.Tuples.{Relation}
-use Rattle.dep_model.proofs.SchemeLemmas.{length-members_below}
+use Rattle.dep_model.specs.Tuples.{Relation, IsOver}
+use Rattle.dep_model.proofs.ListLemmas.{same_default}
 use Rattle.fd_search.specs.Keys.{IsRowKey}
 use Rattle.file_references.specs.Columns.{file_at, name_at}
-use Rattle.file_references.specs.Finds.{Adds, AreLookedIn, AreNamedAs, IsLookedIn, IsTargetOf, IsTo, KnowsTargets, RefersTo, RefersToOne}
+use Rattle.file_references.specs.Finds.{Adds, AreLookedIn, IsLookedIn, IsTargetOf, IsTo, KnowsTargets, MayRefer, RefersTo, RefersToOne}
 use Rattle.file_references.specs.Keys.{AreValues, HoldsKey, IsWholeKey}
 use Rattle.file_references.specs.References.{AreNamesakes, HasTwoRows, IsOneColumn, IsReference, IsTarget, Reference}
 use Rattle.file_references.specs.declared.reference.TheConstants.{MOST_KEY_COLUMNS}
 use Rattle.file_references.specs.declared.targets.Target.{Target}
 use Rattle.file_references.proofs.AddLemmas.{adds_fewer, adds_none}
+use Rattle.file_references.proofs.PromisingLemmas.{may_refer}
 use Rattle.file_references.proofs.SetLemmas.{member_of}
-use Rattle.file_references.proofs.TargetLemmas.{adds_key, known_at_first, known_key, known_next, known_other, looked_more, looked_one, new_key, new_target, target_known}
+use Rattle.file_references.proofs.SourceLemmas.{all_named_low}
+use Rattle.file_references.proofs.TargetLemmas.{adds_key, known_at_first, known_key, known_next, known_other, new_key, new_target, target_known}
 use Rattle.headed_rows.specs.Headings.{HeadedRows}
 use Rattle.schema_model.specs.Schemas.{attribute_named}
 use Rattle.table_join.specs.Lent.{tuples_of}
@@ -107,40 +109,50 @@ module _ (files : List HeadedRows) (target : ℕ) where
 
   -- ---- all sizes
   -- of a source of a key of several columns the columns of the key are shared
-  alone : (shared : Attributes) → ((file k x : ℕ) → file < length files → (file ≡ target → ⊥) → k < n
-      → attribute_named (file_at files file).names (name_at (file_at files target).names k) ≡ Some x → shared k ≡ true)
+  alone : (shared : Attributes) → ((file : ℕ) → file < length files → IsOver (length (file_at files file).names) (file_at files file).rows)
+      → ((file k x : ℕ) → file < length files → (file ≡ target → ⊥) → k < n
+      → attribute_named (file_at files file).names (name_at (file_at files target).names k) ≡ Some x
+      → MayRefer (file_at files file).rows x r k → shared k ≡ true)
       → (ref : Reference) → ref.target ≡ target → IsReference files ref
       → (length ref.key ≡ 1) ⊎ ((k : ℕ) → Contains ref.key k → shared k ≡ true)
-  alone shared all ref to is = ⊎_elim (λ (column : IsOneColumn files ref). inl (ap length column.target))
+  alone shared over all ref to is = ⊎_elim (λ (column : IsOneColumn files ref). inl (ap length column.target))
       (λ (names : AreNamesakes files ref). inr (λ k has.
       let t = is.candidate.target in
       let low = (member_of (length (file_at files ref.target).names) t.set k (subst (λ (ks : List ℕ). Contains ks k) t.columns has)).0 in
-      named ref to names is.candidate.file k has
+      named ref to names is k has
       (subst (λ (i : ℕ). k < length (file_at files i).names) to low))) is.candidate.source
     where
-      named : (ref : Reference) → ref.target ≡ target → AreNamesakes files ref → ref.file < length files → (k : ℕ) → Contains ref.key k
+      named : (ref : Reference) → ref.target ≡ target → AreNamesakes files ref → IsReference files ref → (k : ℕ) → Contains ref.key k
           → k < n → shared k ≡ true
-      named ref to names inside k (i, i_low, at) low =
+      named ref to names is k (i, i_low, at) low =
+          let inside = is.candidate.file in
           let size = length_all_zip (λ (column c : ℕ). attribute_named (file_at files ref.file).names (name_at (file_at files ref.target).names c) ≡ Some column)
           ref.columns ref.key names.named in
           let here = AllZip-get_or (λ (column c : ℕ). attribute_named (file_at files ref.file).names (name_at (file_at files ref.target).names c) ≡ Some column)
           ref.columns ref.key i 0 k names.named (omega (arith, i_low, size)) in
+          let may = may_refer (length (file_at files ref.file).names) (file_at files ref.file).rows ref.columns
+          (file_at files ref.target).rows ref.key i (over ref.file inside)
+          (all_named_low (file_at files ref.file).names (file_at files ref.target).names ref.columns ref.key names.named) size i_low is.within in
           all ref.file k (get_or ref.columns i 0) inside (λ same. names.other (same ∙ sym to)) low
           (ap (λ (t : ℕ). attribute_named (file_at files ref.file).names (name_at (file_at files t).names k)) (sym to)
           ∙ ap (λ (c : ℕ). attribute_named (file_at files ref.file).names (name_at (file_at files ref.target).names c)) (sym at)
           ∙ here)
+          (subst (MayRefer (file_at files ref.file).rows (get_or ref.columns i 0) r) (same_default ref.key i 0 k i_low ∙ at)
+          (subst (λ (t : ℕ). MayRefer (file_at files ref.file).rows (get_or ref.columns i 0) (file_at files t).rows (get_or ref.key i 0)) to may))
 
   pub all_known : (shared : Attributes) (first : List Reference) (keys : List AttrSet) (found : List Reference) → n ≤ MOST_ATTRIBUTES
+      → ((file : ℕ) → file < length files → IsOver (length (file_at files file).names) (file_at files file).rows)
       → ((file k x : ℕ) → file < length files → (file ≡ target → ⊥) → k < n
-      → attribute_named (file_at files file).names (name_at (file_at files target).names k) ≡ Some x → shared k ≡ true)
+      → attribute_named (file_at files file).names (name_at (file_at files target).names k) ≡ Some x
+      → MayRefer (file_at files file).rows x r k → shared k ≡ true)
       → KnowsTargets files target shared 3 [] first keys found → Adds files (IsTo target) first found
-  all_known shared first keys found low all knows =
+  all_known shared first keys found low over all knows =
       adds_fewer files (RefersToOne n target keys) (IsTo target) first found
       (λ ref is to. (
         to,
         target_known n r shared 3 keys ref.key low (omega arith) knows.known
             (subst (λ (i : ℕ). IsTarget (length (file_at files i).names) (file_at files i).rows ref.key) to is.candidate.target)
-            (alone shared all ref to is),
+            (alone shared over all ref to is),
       )) knows.added
 
   -- where no two rows differ, there is no target

@@ -3,6 +3,8 @@ pub mod KeyLemmas
 pub mod SetLemmas
 pub mod AgreeLemmas
 pub mod AddLemmas
+pub mod FollowLemmas
+pub mod PromisingLemmas
 pub mod TargetLemmas
 pub mod KnowsLemmas
 pub mod ShareLemmas

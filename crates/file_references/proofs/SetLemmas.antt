@@ -1,15 +1,14 @@
 -- Sets of columns by their sizes, and their columns.
 use Rattle.std.specs.Prelude.{All, Any, Contains}
-use Rattle.std.proofs.Common.{inl, inr, ◌≡◌, ◌+◌, ◌<◌, ◌≤◌, ◌==◌, ◌⊎◌, ◌||◌, ◌&&◌, ℕ, zero, suc, Bool, true, false, true≢false, not, List, [], ◌∷◌, ◌++◌, length, take, get_or, refl, sym, ap, subst, ◌∙◌, ⊎_elim, arith, eqb-true, eq-eqb, ltb-true, lt-ltb}
+use Rattle.std.proofs.Common.{inl, inr, ◌≡◌, ◌+◌, ◌<◌, ◌==◌, ◌⊎◌, ◌||◌, ◌&&◌, ℕ, zero, suc, Bool, true, false, true≢false, not, List, [], ◌∷◌, ◌++◌, length, take, get_or, refl, sym, ap, subst, ◌∙◌, ⊎_elim, arith, eqb-true, eq-eqb, ltb-true, lt-ltb}
 use Rattle.std.proofs.lemmas.Bool.{cases_Bool, cases_lt, cases_order}
-use Rattle.std.proofs.lemmas.Bool.Decides.{nat_tests}
 use Rattle.std.proofs.lemmas.List.{take_more}
-use Rattle.std.proofs.lemmas.List.Elements.{All-contains, All-nil, All-push, Contains-append_left, Contains-get_or, Contains-push, Contains-push_cases}
+use Rattle.std.proofs.lemmas.List.Elements.{All-contains, Contains-append_left, Contains-push, Contains-push_cases}
 use Rattle.attr_sets.specs.Attributes.{Attributes, IsSubset, below, count_below, difference, only, union}
 use Rattle.attr_sets.specs.Sets.{attributes}
 use Rattle.attr_sets.specs.declared.set.AttrSet.{AttrSet}
 use Rattle.attr_sets.specs.declared.set.TheConstants.{MOST_ATTRIBUTES}
-use Rattle.attr_sets.proofs.AttributesLemmas.{attributes_below, count_below-before_member, count_below-difference_only, count_below-lt, count_below-none, count_below-only, count_below-union_only, same_from_within, tell_member}
+use Rattle.attr_sets.proofs.AttributesLemmas.{count_below-before_member, count_below-difference_only, count_below-lt, count_below-none, count_below-only, count_below-union_only, same_from_within, tell_member}
 use Rattle.dep_model.specs.Projections.{members_below}
 use Rattle.dep_model.proofs.ListLemmas.{All-members, Any-from, Any-left}
 use Rattle.dep_model.proofs.SchemeLemmas.{count_below-no_more, count_below-start, length-members_below, member_at, members_below-at}

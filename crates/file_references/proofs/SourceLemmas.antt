@@ -1,16 +1,14 @@
 -- Which columns refer to a target.
-use Rattle.std.specs.Prelude.{◌↔◌, All, Contains}
-use Rattle.std.specs.List.{AllZip}
-use Rattle.std.proofs.Common.{inl, inr, ◌≡◌, ◌+◌, ◌<◌, ◌⊎◌, ℕ, zero, suc, true, List, [], ◌∷◌, ◌++◌, length, take, get_or, Option, Some, None, refl, sym, ap, subst, ◌∙◌, ⊎_elim, arith}
+use Rattle.std.specs.Prelude.{All, Contains}
+use Rattle.std.proofs.Common.{inl, inr, ◌≡◌, ◌+◌, ◌<◌, ◌≤◌, ℕ, zero, suc, true, List, [], ◌∷◌, ◌++◌, length, take, get_or, Some, None, refl, sym, ap, subst, ◌∙◌, ⊎_elim, arith}
 use Rattle.std.proofs.lemmas.List.Elements.{AllZip-get_or, AllZip-push, length_all_zip}
 use Rattle.std.proofs.lemmas.List.{take_more}
 use Rattle.std.proofs.lemmas.Bool.{cases_lt}
 use Rattle.std.proofs.lemmas.List.Quantifiers.{position-Some}
 use Rattle.dep_model.proofs.ListLemmas.{All-members}
 use Rattle.dep_model.specs.Tuples.{Tuple, Relation}
-use Rattle.file_references.specs.Columns.{HasMatch, file_at, misses_none, name_at, values_on}
+use Rattle.file_references.specs.Columns.{file_at, misses_none, name_at, values_on}
 use Rattle.file_references.specs.Finds.{Adds, AllAre, AreNamedAs, IsTargetOf, IsThis, RefersFrom, RefersFromColumns, RefersFromFirst, RefersTo, refers_from}
-use Rattle.file_references.specs.Keys.{AreValues}
 use Rattle.file_references.specs.References.{AreNamesakes, IsCandidate, IsOneColumn, IsReference, IsTarget, Reference}
 use Rattle.file_references.specs.declared.targets.Target.{Target}
 use Rattle.file_references.proofs.AddLemmas.{adds_fewer, adds_none, adds_then}
@@ -248,22 +246,38 @@ names_these files file columns target old new not_one named adds =
 
 -- ---- file by file
 pub files_first : (files : List HeadedRows) (target : Target) (old : List Reference) → Adds files (RefersFromFirst target 0) old old
-files_first files target old = adds_none files (RefersFromFirst target 0) old (λ ref is from. omega (arith, from.1))
+files_first files target old = adds_none files (RefersFromFirst target 0) old (λ ref is (to, turn). ⊎_elim
+    (λ (low, near). omega (arith, low, near)) (λ (far, low). omega (arith, low)) turn)
 
-pub files_more : (files : List HeadedRows) (file : ℕ) (target : Target) (old now new : List Reference) → Adds files (RefersFromFirst target file) old now
-    → Adds files (RefersFrom target file) now new → Adds files (RefersFromFirst target (file + 1)) old new
-files_more files file target old now new before one =
-    adds_then files (RefersFromFirst target file) (RefersFrom target file) (RefersFromFirst target (file + 1)) old now new
-    (λ ref is from. elim (cases_lt ref.file file) [
-      | inl less ↦ inl (from.0, less)
-      | inr other ↦ inr (from.0, omega (arith, from.1, other))
-    ]) before one
+pub files_more : (files : List HeadedRows) (file n : ℕ) (target : Target) (old now new : List Reference)
+    → (n < target.file → file + n + 1 ≡ target.file) → (target.file ≤ n → file ≡ n)
+    → Adds files (RefersFromFirst target n) old now → Adds files (RefersFrom target file) now new
+    → Adds files (RefersFromFirst target (n + 1)) old new
+files_more files file n target old now new before after so_far one =
+    adds_then files (RefersFromFirst target n) (RefersFrom target file) (RefersFromFirst target (n + 1)) old now new
+    (λ ref is (to, turn). ⊎_elim
+    (λ (low, near). elim (cases_lt target.file (ref.file + n + 1)) [
+      | inl less ↦ inl (to, inl (low, less))
+      | inr more ↦ let at = before (omega (arith, near, more)) in inr (to, omega (arith, at, near, more))
+    ])
+    (λ (far, low). elim (cases_lt ref.file n) [
+      | inl less ↦ inl (to, inr (far, less))
+      | inr more ↦ let at = after (omega (arith, far, low)) in inr (to, omega (arith, at, low, more))
+    ]) turn) so_far one
 
 pub files_all : (files : List HeadedRows) (n : ℕ) (target : Target) (old new : List Reference) → n ≡ length files → Adds files (RefersFromFirst target n) old new
     → Adds files (RefersTo target) old new
 files_all files n target old new all adds =
     adds_fewer files (RefersFromFirst target n) (RefersTo target) old new
-    (λ ref is to. (to, subst (λ (m : ℕ). ref.file < m) (sym all) is.candidate.file)) adds
+    (λ ref is to.
+    let low = is.candidate.file in
+    let near = is.candidate.target_file in (
+      to,
+      elim (cases_lt ref.file target.file) [
+        | inl less ↦ inl (less, omega (arith, near, to.0, all))
+        | inr more ↦ inr (more, omega (arith, low, all))
+      ],
+    )) adds
 
 -- ---- rows whose values are all among others
 pub all_are : (r : Relation) (columns : List ℕ) (values : Relation) (i : ℕ) → length r ≡ i

@@ -1,22 +1,22 @@
 -- Which sets of columns of a file are targets: minimal keys that are found by their sizes.
-use Rattle.std.specs.Prelude.{All, Any, Contains}
-use Rattle.std.proofs.Common.{inl, inr, ◌≡◌, ◌+◌, ◌<◌, ◌≤◌, ◌⊎◌, ℕ, zero, suc, true, false, true≢false, List, [], ◌∷◌, ◌++◌, length, sym, ap, subst, refl, ◌∙◌, ⊎_elim, arith, ltb-true, lt-ltb}
+use Rattle.std.specs.Prelude.{Any, Contains}
+use Rattle.std.proofs.Common.{inl, inr, ◌≡◌, ◌+◌, ◌<◌, ◌≤◌, ◌⊎◌, ℕ, zero, suc, true, false, true≢false, List, [], ◌∷◌, ◌++◌, length, sym, ap, subst, refl, ◌∙◌, ⊎_elim, arith, ltb-true}
 use Rattle.std.proofs.lemmas.Bool.{cases_Bool, cases_lt}
-use Rattle.std.proofs.lemmas.List.Elements.{All-contains, All-nil, All-push, Contains-push, Contains-push_cases}
+use Rattle.std.proofs.lemmas.List.Elements.{All-contains, All-push, Contains-push, Contains-push_cases}
 use Rattle.attr_sets.specs.Attributes.{Attributes, IsSubset, below, count_below, difference, only}
 use Rattle.attr_sets.specs.Sets.{attributes}
 use Rattle.attr_sets.specs.declared.set.AttrSet.{AttrSet}
 use Rattle.attr_sets.specs.declared.set.TheConstants.{MOST_ATTRIBUTES}
 use Rattle.attr_sets.proofs.AttributesLemmas.{count_below-difference_only, count_below-low, count_below-pos, same_from_within}
 use Rattle.dep_model.specs.Projections.{members_below}
-use Rattle.dep_model.specs.Tuples.{Tuple, Relation, AgreeOn}
+use Rattle.dep_model.specs.Tuples.{Tuple, Relation}
 use Rattle.dep_model.proofs.ListLemmas.{Any-from, Any-left, Any-weaker}
 use Rattle.dep_model.proofs.SchemeLemmas.{length-members_below}
 use Rattle.fd_search.specs.Keys.{Identifies, IsRowKey}
-use Rattle.file_references.specs.Columns.{file_at, misses_none, values_on}
+use Rattle.file_references.specs.Columns.{misses_none}
 use Rattle.file_references.specs.Finds.{Adds, RefersToOne}
 use Rattle.file_references.specs.Keys.{AreAllOfSize, AreLooked, IsLooked, IsWholeKey, KnowsKeys}
-use Rattle.file_references.specs.References.{HasTwoRows, IsReference, IsTarget, Reference}
+use Rattle.file_references.specs.References.{HasTwoRows, IsTarget, Reference}
 use Rattle.file_references.specs.declared.reference.TheConstants.{MOST_KEY_COLUMNS}
 use Rattle.file_references.proofs.AddLemmas.{adds_then}
 use Rattle.file_references.proofs.AgreeLemmas.{agree_from_values, values_from_agree, whole_from, whole_to}

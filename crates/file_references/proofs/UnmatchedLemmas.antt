@@ -1,13 +1,12 @@
 -- Rows without a match.
-use Rattle.std.specs.Prelude.{◌↔◌, Any, Contains}
-use Rattle.std.specs.List.{list_any, position_or_len}
+use Rattle.std.specs.Prelude.{◌↔◌, Contains}
+use Rattle.std.specs.List.{position_or_len}
 use Rattle.std.specs.declared.alloc.Global.{Global}
 use Rattle.std.proofs.Common.{inl, inr, ◌≡◌, ◌+◌, ◌<◌, ◌&&◌, ℕ, Bool, true, false, true≢false, not, List, [], ◌∷◌, ◌++◌, length, map, take, get_or, Bor, Vec, sym, ap, subst, refl, ◌∙◌, arith}
 use Rattle.std.proofs.lemmas.Bool.{cases_Bool}
 use Rattle.std.proofs.lemmas.List.{get_or-map, length-map}
 use Rattle.std.proofs.lemmas.List.Folds.{Any-from_list_any, list_any-from_Any}
 use Rattle.attr_sets.proofs.AttributesLemmas.{same_truth}
-use Rattle.dep_model.specs.Projections.{members_below}
 use Rattle.dep_model.specs.Tuples.{Tuple, Relation, distinct_tuples, same_tuple}
 use Rattle.dep_model.proofs.DistinctLemmas.{distinct_tuples-from, distinct_tuples-to, same_tuple-decides}
 use Rattle.dep_model.proofs.ListLemmas.{Contains-map, map-member}

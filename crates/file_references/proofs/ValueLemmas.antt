@@ -1,12 +1,11 @@
 -- Rows at lists of columns: where their values stand, which are there, and rows by their positions.
-use Rattle.std.proofs.Common.{inl, inr, ◌≡◌, ◌+◌, ◌<◌, ◌==◌, nat_lt, ℕ, Bool, true, false, true≢false, List, [], ◌∷◌, length, map, take, get_or, Bor, refl, sym, ap, subst, ◌∙◌, arith}
+use Rattle.std.proofs.Common.{◌≡◌, ◌+◌, ◌<◌, ◌==◌, nat_lt, ℕ, Bool, true, false, true≢false, List, [], length, take, get_or, Bor, sym, ap, ◌∙◌, arith}
 use Rattle.std.specs.List.{list_all}
 use Rattle.std.specs.Prelude.{All, Contains}
-use Rattle.std.proofs.lemmas.List.Elements.{All-get_or, All-contains, Contains-get_or}
+use Rattle.std.proofs.lemmas.List.Elements.{All-get_or, Contains-get_or}
 use Rattle.std.proofs.lemmas.List.Folds.{list_all-map, list_all_at, list_all_more}
 use Rattle.std.proofs.lemmas.Bool.Decides.{nat_tests}
-use Rattle.std.proofs.lemmas.List.{map_more, get_or-map}
-use Rattle.dep_model.specs.Tuples.{Tuple, Relation, IsOver, value_at}
+use Rattle.dep_model.specs.Tuples.{Tuple, Relation, IsOver}
 use Rattle.dep_model.proofs.ListLemmas.{same_default}
 use Rattle.row_store.specs.Rows.{row_at}
 use Rattle.table_join.specs.Lent.{lent_values}

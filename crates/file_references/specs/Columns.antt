@@ -17,6 +17,10 @@ is_there value = nat_lt 0 (length value)
 abbrev pub misses_none : List ℕ → Tuple → Bool
 misses_none columns t = list_all is_there (values_on columns t)
 
+-- whether it misses no value at all
+abbrev pub misses_nothing : Tuple → Bool
+misses_nothing t = list_all is_there t
+
 -- some row of a relation misses none of them
 abbrev pub HasWholeRow : Relation → List ℕ → Type 0
 HasWholeRow r columns = (t : Tuple) × Contains r t × (misses_none columns t ≡ true)
@@ -24,6 +28,10 @@ HasWholeRow r columns = (t : Tuple) × Contains r t × (misses_none columns t �
 -- some row of a relation has these values at columns
 abbrev pub HasMatch : Relation → List ℕ → Tuple → Type 0
 HasMatch r columns values = (t : Tuple) × Contains r t × (values_on columns t ≡ values)
+
+-- and this value at a column
+abbrev pub HasValue : Relation → ℕ → List ℕ → Type 0
+HasValue r column value = (t : Tuple) × Contains r t × (value_at t column ≡ value)
 
 -- no file
 abbrev pub no_file : HeadedRows

@@ -1,14 +1,14 @@
 -- How references are found, one target after the other: for `all_references` and the functions below it.
 -- `Desk` does not cite it.
-use Rattle.std.specs.Prelude.{◌≡◌, ◌<◌, ◌⊎◌, ℕ, true, Some, List, [], ◌∷◌, All, length, map, Contains}
+use Rattle.std.specs.Prelude.{◌≡◌, ◌+◌, ◌<◌, ◌≤◌, ◌⊎◌, ℕ, true, Some, List, [], ◌∷◌, All, length, Contains}
 use Rattle.std.specs.List.{AllZip}
 use Rattle.attr_sets.specs.Attributes.{Attributes, count_below}
 use Rattle.attr_sets.specs.Sets.{attributes}
 use Rattle.attr_sets.specs.declared.set.AttrSet.{AttrSet}
 use Rattle.attr_sets.specs.declared.set.TheConstants.{MOST_ATTRIBUTES}
 use Rattle.dep_model.specs.Projections.{members_below}
-use Rattle.dep_model.specs.Tuples.{Tuple, Relation}
-use Rattle.file_references.specs.Columns.{HasWholeRow, file_at, misses_none, name_at, values_on}
+use Rattle.dep_model.specs.Tuples.{Tuple, Relation, value_at}
+use Rattle.file_references.specs.Columns.{HasValue, HasWholeRow, file_at, misses_none, misses_nothing, name_at, values_on}
 use Rattle.file_references.specs.Keys.{AreLooked, AreValues, IsLooked, KnowsKeys}
 use Rattle.file_references.specs.References.{IsReference, IsTarget, Reference}
 use Rattle.file_references.specs.declared.reference.FoundReference.{FoundReference}
@@ -27,6 +27,18 @@ pub record Adds (files : List HeadedRows) (P : Reference → Type 0) (old new : 
   pub only : (ref : Reference) → Contains new ref → Contains old ref ⊎ IsReference files ref
   pub all : (ref : Reference) → IsReference files ref → P ref → Contains new ref
 
+-- each of these is a reference
+abbrev pub AreReferences : List HeadedRows → List Reference → Type 0
+AreReferences files refs = (ref : Reference) → Contains refs ref → IsReference files ref
+
+-- a reference follows from two of these: its source refers to columns that refer to its target (Casanova, Fagin and
+-- Papadimitriou 1984)
+abbrev pub Follows : List Reference → Reference → Type 0
+Follows refs ref =
+    (file : ℕ) × ((columns : List ℕ)
+    × Contains refs (record { file = ref.file; columns = ref.columns; target = file; key = columns })
+    × Contains refs (record { file = file; columns = columns; target = ref.target; key = ref.key }))
+
 -- the target of the code is one of the files, with its values
 pub record IsTargetOf (files : List HeadedRows) (target : Target) : Type 0 where
   pub within : target.file < length files
@@ -37,12 +49,17 @@ pub record IsTargetOf (files : List HeadedRows) (target : Target) : Type 0 where
 abbrev pub RefersTo : Target → Reference → Type 0
 RefersTo target ref = (ref.target ≡ target.file) × (ref.key ≡ target.columns.items)
 
--- and from this file, from one of the first n files, and from one of the first n columns of this file
+-- and from this file
 abbrev pub RefersFrom : Target → ℕ → Reference → Type 0
 RefersFrom target file ref = RefersTo target ref × (ref.file ≡ file)
 
+-- one of the first n files in turn: those before a file from the last on, and then it and those after it
+abbrev pub IsInTurn : ℕ → ℕ → ℕ → Type 0
+IsInTurn target n file = ((file < target) × (target < file + n + 1)) ⊎ ((target ≤ file) × (file < n))
+
+-- from one of these, and from one of the first n columns of this file
 abbrev pub RefersFromFirst : Target → ℕ → Reference → Type 0
-RefersFromFirst target n ref = RefersTo target ref × (ref.file < n)
+RefersFromFirst target n ref = RefersTo target ref × IsInTurn target.file n ref.file
 
 abbrev pub RefersFromColumns : Target → ℕ → ℕ → Reference → Type 0
 RefersFromColumns target file n ref =
@@ -73,6 +90,17 @@ RefersToOne n file sets ref =
 pub record AllAre (r : Relation) (columns : List ℕ) (values : Relation) : Type 0 where
   pub within : (t : Tuple) → Contains r t → misses_none columns t ≡ true → Contains values (values_on columns t)
   pub some_row : HasWholeRow r columns
+
+-- each row has its value at a column among these, and each row that misses nothing
+abbrev pub HasColumn : Relation → ℕ → List (List ℕ) → Type 0
+HasColumn r column values = (t : Tuple) → Contains r t → Contains values (value_at t column)
+
+abbrev pub AreAmong : Relation → ℕ → List (List ℕ) → Type 0
+AreAmong r column values = (t : Tuple) → Contains r t → misses_nothing t ≡ true → Contains values (value_at t column)
+
+-- and so they have them among the values of a column of another relation: else the one is never paired with the other
+abbrev pub MayRefer : Relation → ℕ → Relation → ℕ → Type 0
+MayRefer r column s k = (t : Tuple) → Contains r t → misses_nothing t ≡ true → HasValue s k (value_at t column)
 
 -- columns of these names are named as those of others, ASCII case aside
 abbrev pub AreNamedAs : List (List ℕ) → List (List ℕ) → List ℕ → List ℕ → Type 0

@@ -1,5 +1,5 @@
 -- Keys of rows by lists of columns, and how they are found: for `key_values` and `add_targets`.
-use Rattle.std.specs.Prelude.{◌≡◌, ◌+◌, ◌<◌, ◌≤◌, ◌⊎◌, ◌↔◌, ℕ, true, List, length, All, Any, Contains}
+use Rattle.std.specs.Prelude.{◌≡◌, ◌<◌, ◌≤◌, ◌⊎◌, ◌↔◌, ℕ, true, List, length, All, Any, Contains}
 use Rattle.attr_sets.specs.Attributes.{Attributes, IsSubset, below, count_below, only, union}
 use Rattle.attr_sets.specs.Sets.{attributes}
 use Rattle.attr_sets.specs.declared.set.AttrSet.{AttrSet}

@@ -19,7 +19,9 @@ use std::alloc::Global;
 ///
 /// For each key the values of its rows are looked up, and a source is left at its first row without a
 /// match: so no two lists of columns are compared further than they can hold (as in SPIDER, Bauckmann,
-/// Leser, Naumann and Tietz 2007, and BINDER, Papenbrock, Kruse, Quiané-Ruiz and Naumann 2015).
+/// Leser, Naumann and Tietz 2007, and BINDER, Papenbrock, Kruse, Quiané-Ruiz and Naumann 2015). What
+/// follows from references that were found is not looked up: of many lists of columns with the same
+/// values each is compared with a few.
 pub fn all_references(
     alloc: Global,
     hashing: Hashing,

@@ -9,8 +9,10 @@
 
 mod column_sets;
 mod finding;
+mod following;
 mod identifying;
 mod matching;
+mod promising;
 mod reference;
 mod sources;
 mod targets;

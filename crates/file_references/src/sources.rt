@@ -1,18 +1,19 @@
 //! The sources that refer to a target.
 
-ghost use Rattle.std.specs.Prelude.{◌≡◌, ◌↔◌, ◌<◌, ℕ, List, length, map, All, IfOk, IsTrue, MatchOption, OnOk};
+ghost use Rattle.std.specs.Prelude.{◌≡◌, ◌↔◌, ◌+◌, ◌<◌, ◌≤◌, ℕ, true, List, length, map, All, IfOk, IsTrue, MatchOption, OnOk};
 ghost use Rattle.dep_model.specs.Tuples.{IsOver};
 ghost use Rattle.file_references.specs.Columns.{file_at};
-ghost use Rattle.file_references.specs.Finds.{Adds, AllAre, AreNamedAs, FitsFile, IsTargetOf, IsThis};
+ghost use Rattle.file_references.specs.Finds.{Adds, AllAre, AreNamedAs, AreReferences, FitsFile, IsTargetOf, IsThis};
 ghost use Rattle.file_references.specs.Finds.{RefersFrom, RefersTo, reference_of, refers_from};
-ghost use Rattle.file_references.specs.References.{IsCandidate};
+ghost use Rattle.file_references.specs.References.{IsCandidate, IsReference};
 ghost use Rattle.headed_rows.specs.Headers.{IsColumnHeader};
 ghost use Rattle.headed_rows.specs.Headings.{headed_of};
 ghost use Rattle.table_join.specs.Lent.{tuples_of};
 
+use crate::following::follows;
 use crate::reference::FoundReference;
 use crate::targets::Target;
-use crate::values::{Values, are_there, has_values, take_on};
+use crate::values::{MOST_FIRST_ROWS, Values, are_there, has_values, take_on};
 use dep_model::OutOfMemory;
 use headed_rows::Headed;
 use indexmap::IndexSet;
@@ -31,11 +32,13 @@ pub fn add_sources(
     requires header { All (λ h. IsColumnHeader h.names.items) files.now }
     requires same_width { All (λ h. IsOver (length h.names.items) h.rows) files.now }
     requires target { FitsFile (map headed_of files.now) target.now }
-    ensures added { IsTargetOf (map headed_of files.now) target.now
+    ensures added { AreReferences (map headed_of files.now) (map reference_of found.old.items)
+        → IsTargetOf (map headed_of files.now) target.now
         → OnOk result (Adds (map headed_of files.now) (RefersTo target.now)
         (map reference_of found.old.items) (map reference_of found.new.items)) }
 {
-    for file in 0..files.len() {
+    for turn in 0..files.len() {
+        let file = file_in_turn(target.file, turn);
         if target.columns.len() == 1 {
             add_columns(alloc, files, file, target, found)?;
         } else {
@@ -43,6 +46,19 @@ pub fn add_sources(
         }
     }
     Ok(())
+}
+
+// The file that is looked at in a turn: the files before that of the target come first, the nearest before all. The
+// references to their keys are known, so where these refer to the target, what refers to them follows.
+fn file_in_turn(target: usize, turn: usize) -> usize
+    ensures before { turn < target → result + turn + 1 ≡ target }
+    ensures after { target ≤ turn → result ≡ turn }
+{
+    if turn < target {
+        target - turn - 1
+    } else {
+        turn
+    }
 }
 
 // Adds the references from single columns of a file.
@@ -58,7 +74,8 @@ fn add_columns(
     requires same_width { All (λ h. IsOver (length h.names.items) h.rows) files.now }
     requires target { FitsFile (map headed_of files.now) target.now }
     requires one { length target.now.columns.items ≡ 1 }
-    ensures added { IsTargetOf (map headed_of files.now) target.now
+    ensures added { AreReferences (map headed_of files.now) (map reference_of found.old.items)
+        → IsTargetOf (map headed_of files.now) target.now
         → OnOk result (Adds (map headed_of files.now) (RefersFrom target.now file)
         (map reference_of found.old.items) (map reference_of found.new.items)) }
 {
@@ -85,7 +102,8 @@ fn add_namesakes(
     requires same_width { All (λ h. IsOver (length h.names.items) h.rows) files.now }
     requires target { FitsFile (map headed_of files.now) target.now }
     requires several { length target.now.columns.items ≡ 1 → ⊥ }
-    ensures added { IsTargetOf (map headed_of files.now) target.now
+    ensures added { AreReferences (map headed_of files.now) (map reference_of found.old.items)
+        → IsTargetOf (map headed_of files.now) target.now
         → OnOk result (Adds (map headed_of files.now) (RefersFrom target.now file)
         (map reference_of found.old.items) (map reference_of found.new.items)) }
 {
@@ -112,12 +130,13 @@ fn add_source(
     requires columns { All (λ k. k < length (file_at (map headed_of files.now) file).names) columns.items }
     requires same_width { All (λ h. IsOver (length h.names.items) h.rows) files.now }
     requires target { FitsFile (map headed_of files.now) target.now }
-    ensures added { IsTargetOf (map headed_of files.now) target.now
+    ensures added { AreReferences (map headed_of files.now) (map reference_of found.old.items)
+        → IsTargetOf (map headed_of files.now) target.now
         → IsCandidate (map headed_of files.now) (refers_from file columns.items target.now)
         → OnOk result (Adds (map headed_of files.now) (IsThis (refers_from file columns.items target.now))
         (map reference_of found.old.items) (map reference_of found.new.items)) }
 {
-    if all_are(alloc, &files[file].rows, &columns, &target.values)? {
+    if refers(alloc, files, file, &columns, target, found)? {
         found.push(FoundReference {
             file,
             columns,
@@ -126,6 +145,59 @@ fn add_source(
         })?;
     }
     Ok(())
+}
+
+// Whether columns of a file refer to a target. Where that follows from what was found, only the first rows are looked
+// up; what was found is not searched where it is more than the rows.
+fn refers(
+    alloc: Global,
+    files: &[Headed],
+    file: usize,
+    columns: &[usize],
+    target: &Target,
+    found: &[FoundReference],
+) -> Result<bool, OutOfMemory>
+    requires file { file < length files.now }
+    requires columns { All (λ k. k < length (file_at (map headed_of files.now) file).names) columns.now }
+    requires same_width { All (λ h. IsOver (length h.names.items) h.rows) files.now }
+    ensures refers { AreReferences (map headed_of files.now) (map reference_of found.now)
+        → IsTargetOf (map headed_of files.now) target.now
+        → IsCandidate (map headed_of files.now) (refers_from file columns.now target.now)
+        → IfOk result (λ refers. IsTrue refers ↔ IsReference (map headed_of files.now) (refers_from file columns.now target.now)) }
+{
+    let rows = &files[file].rows;
+    if !are_first_among(alloc, rows, columns, &target.values)? {
+        return Ok(false);
+    }
+    if found.len() <= rows.len() && follows(found, file, columns, target) {
+        return Ok(true);
+    }
+    all_are(alloc, rows, columns, &target.values)
+}
+
+// Whether the first rows that miss none of their values at columns have them among these.
+fn are_first_among(
+    alloc: Global,
+    rows: &Rows,
+    columns: &[usize],
+    values: &IndexSet<Values, Hashing>,
+) -> Result<bool, OutOfMemory>
+    requires columns { All (λ t. All (λ k. k < length t) columns.now) rows.now }
+    ensures first { AllAre rows.now columns.now (tuples_of values.now.keys) → IfOk result (λ are. are ≡ true) }
+{
+    let mut read = Vec::new(alloc);
+    for row in 0..rows.len() {
+        if row == MOST_FIRST_ROWS {
+            return Ok(true);
+        }
+        take_on(&mut read, rows, row, columns)?;
+        if are_there(&read) {
+            if !has_values(values, &read) {
+                return Ok(false);
+            }
+        }
+    }
+    Ok(true)
 }
 
 // Whether each row that misses none of its values at columns has them among these, and some row misses none.

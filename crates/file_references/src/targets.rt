@@ -6,6 +6,7 @@ ghost use Rattle.attr_sets.specs.Sets.{attributes};
 ghost use Rattle.dep_model.specs.Tuples.{IsOver};
 ghost use Rattle.file_references.specs.Columns.{file_at, name_at};
 ghost use Rattle.file_references.specs.Finds.{Adds, AreLookedIn, IsLookedIn, IsTo, KnowsTargets, reference_of};
+ghost use Rattle.file_references.specs.Finds.{AreReferences};
 ghost use Rattle.file_references.specs.References.{HasTwoRows, Reference};
 ghost use Rattle.file_references.specs.declared.reference.TheConstants.{MOST_KEY_COLUMNS};
 ghost use Rattle.headed_rows.specs.Headers.{IsColumnHeader};
@@ -14,6 +15,7 @@ ghost use Rattle.schema_model.specs.Schemas.{attribute_named};
 
 use crate::column_sets::{columns_of, has_within, sets_of_one, sets_of_one_more};
 use crate::identifying::key_values;
+use crate::promising::promising_columns;
 use crate::reference::FoundReference;
 use crate::sources::add_sources;
 use crate::values::{Values, are_same};
@@ -33,8 +35,8 @@ pub struct Target<'a> {
     pub values: IndexSet<Values<'a>, Hashing>,
 }
 
-// Adds the references to keys of one file. A key of several columns is looked for among those alone that
-// another file has too.
+// Adds the references to keys of one file. A key of several columns is looked for among those alone to which
+// columns of the same names in another file may refer.
 pub fn add_references_to(
     alloc: Global,
     hashing: Hashing,
@@ -45,17 +47,19 @@ pub fn add_references_to(
     requires target { target < length files.now }
     requires header { All (λ h. IsColumnHeader h.names.items) files.now }
     requires same_width { All (λ h. IsOver (length h.names.items) h.rows) files.now }
-    ensures added { OnOk result (Adds (map headed_of files.now) (IsTo target)
+    ensures added { AreReferences (map headed_of files.now) (map reference_of found.old.items)
+        → OnOk result (Adds (map headed_of files.now) (IsTo target)
         (map reference_of found.old.items) (map reference_of found.new.items)) }
 {
     if !have_two(&files[target].rows) {
         return Ok(());
     }
     let width = files[target].names.len() as u8;
-    let shared = shared_columns(files, target);
     let mut keys = Vec::new(alloc);
     let columns = sets_of_one(alloc, AttrSet::full(width))?;
     add_targets(alloc, hashing, files, target, &columns, &mut keys, found)?;
+    let named = shared_columns(files, target);
+    let shared = promising_columns(alloc, hashing, files, target, named, &keys)?;
     let pairs = sets_of_one_more(alloc, shared, &sets_of_one(alloc, shared)?)?;
     add_targets(alloc, hashing, files, target, &pairs, &mut keys, found)?;
     let triples = sets_of_one_more(alloc, shared, &pairs)?;
@@ -129,6 +133,7 @@ fn add_targets(
     requires two { HasTwoRows (file_at (map headed_of files.now) target).rows }
     ensures knows { (shared : Attributes) (size : ℕ) (first : List Reference) → size < MOST_KEY_COLUMNS
         → AreLookedIn (map headed_of files.now) target shared (size + 1) sets.now
+        → AreReferences (map headed_of files.now) first
         → KnowsTargets (map headed_of files.now) target shared size [] first keys.old.items
         (map reference_of found.old.items)
         → OnOk result (KnowsTargets (map headed_of files.now) target shared (size + 1) [] first keys.new.items
@@ -156,6 +161,7 @@ fn add_target(
     requires two { HasTwoRows (file_at (map headed_of files.now) target).rows }
     ensures knows { (shared : Attributes) (size : ℕ) (sets : List AttrSet) (first : List Reference)
         → size < MOST_KEY_COLUMNS → IsLookedIn (map headed_of files.now) target shared (size + 1) set
+        → AreReferences (map headed_of files.now) first
         → KnowsTargets (map headed_of files.now) target shared size sets first keys.old.items
         (map reference_of found.old.items)
         → OnOk result (KnowsTargets (map headed_of files.now) target shared size (sets ++ set ∷ []) first keys.new.items

@@ -10,6 +10,9 @@ use dep_model::OutOfMemory;
 use indexmap::IndexSet;
 use row_store::{Hashing, Rows};
 
+// How many rows of a file are looked at first: nearly all columns that do not refer show it there.
+pub const MOST_FIRST_ROWS: usize = 100;
+
 // The values of a row at columns.
 pub type Values<'a> = Vec<&'a [u8]>;
 

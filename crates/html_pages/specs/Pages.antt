@@ -22,9 +22,13 @@ folded_text title text =
     codes "<details><summary>" ++ title ++ codes "</summary>\n" ++ printed_text text ++ codes "</details>\n"
 
 -- ---- the whole
+-- the heading of a section
+unfoldable pub heading_text : List ℕ → List ℕ
+heading_text heading = codes "<h2>" ++ heading ++ codes "</h2>\n"
+
 -- a section: its heading, and its pieces
-unfoldable pub section_text : List ℕ → List ℕ → List ℕ
-section_text heading pieces = codes "<h2>" ++ heading ++ codes "</h2>\n" ++ pieces
+abbrev pub section_text : List ℕ → List ℕ → List ℕ
+section_text heading pieces = heading_text heading ++ pieces
 
 -- what stands before the sections: the page has the name of a file
 unfoldable pub front_text : List ℕ → List ℕ

@@ -38,6 +38,7 @@ style_text =
     ++ style_line (codes "svg text{font-size:14px;fill:var(--ink)}")
     ++ style_line (codes "svg .t{font-weight:700}")
     ++ style_line (codes "svg .k{text-decoration:underline}")
+    ++ style_line (codes "svg .o{text-decoration:underline dashed}")
     ++ style_line (codes "svg path{fill:none;stroke:var(--mark);stroke-width:1.5}")
     ++ style_line (codes "svg circle{fill:var(--mark)}")
     ++ style_line (codes "@media print{pre{white-space:pre-wrap}}")

@@ -17,6 +17,6 @@ mod style;
 
 pub use commands::add_shell_word;
 pub use escapes::add_html;
-pub use page::{close_page, open_page, section};
-pub use pieces::{folded_piece, open_piece, titled};
+pub use page::{add_heading, close_page, open_page};
+pub use pieces::{add_folded_piece, add_open_piece, titled};
 pub use style::page_style;

@@ -1,5 +1,5 @@
 ghost use Rattle.std.specs.Prelude.{◌≡◌, ◌++◌, codes, IfOk, OnOk};
-ghost use Rattle.html_pages.specs.Pages.{front_text, section_text};
+ghost use Rattle.html_pages.specs.Pages.{front_text, heading_text};
 
 use crate::add_html;
 use crate::style::page_style;
@@ -7,17 +7,14 @@ use byte_texts::add;
 use dep_model::OutOfMemory;
 use std::alloc::Global;
 
-/// A section: its heading, which is HTML, and its pieces.
-#[tactic(auto, unfolding(crate::specs::Pages::section_text))]
-pub fn section(alloc: Global, heading: &[u8], pieces: &[u8]) -> Result<Vec<u8>, OutOfMemory>
-    ensures text { IfOk result (λ text. text.items ≡ section_text heading.now pieces.now) }
+/// Adds the heading of a section, which is HTML. The pieces of the section stand below it.
+#[tactic(auto, unfolding(crate::specs::Pages::heading_text))]
+pub fn add_heading(text: &mut Vec<u8>, heading: &[u8]) -> Result<(), OutOfMemory>
+    ensures added { OnOk result (text.new.items ≡ text.old.items ++ heading_text heading.now) }
 {
-    let mut text = Vec::new(alloc);
-    add(&mut text, b"<h2>")?;
-    add(&mut text, heading)?;
-    add(&mut text, b"</h2>\n")?;
-    add(&mut text, pieces)?;
-    Ok(text)
+    add(text, b"<h2>")?;
+    add(text, heading)?;
+    add(text, b"</h2>\n")
 }
 
 /// The front of a page that has the name of a file.

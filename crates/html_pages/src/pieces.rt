@@ -19,31 +19,27 @@ pub fn titled(alloc: Global, title: &[u8], words: &[u8]) -> Result<Vec<u8>, OutO
     Ok(text)
 }
 
-/// A text that was printed, below a title, which is HTML.
+/// Adds a text that was printed, below a title, which is HTML.
 #[tactic(auto, unfolding(crate::specs::Pages::open_text))]
-pub fn open_piece(alloc: Global, title: &[u8], printed: &[u8]) -> Result<Vec<u8>, OutOfMemory>
-    ensures text { IfOk result (λ text. text.items ≡ open_text title.now printed.now) }
+pub fn add_open_piece(text: &mut Vec<u8>, title: &[u8], printed: &[u8]) -> Result<(), OutOfMemory>
+    ensures added { OnOk result (text.new.items ≡ text.old.items ++ open_text title.now printed.now) }
 {
-    let mut text = Vec::new(alloc);
-    add(&mut text, b"<h3>")?;
-    add(&mut text, title)?;
-    add(&mut text, b"</h3>\n")?;
-    add_printed(&mut text, printed)?;
-    Ok(text)
+    add(text, b"<h3>")?;
+    add(text, title)?;
+    add(text, b"</h3>\n")?;
+    add_printed(text, printed)
 }
 
 /// The same, folded until one opens it.
 #[tactic(auto, unfolding(crate::specs::Pages::folded_text))]
-pub fn folded_piece(alloc: Global, title: &[u8], printed: &[u8]) -> Result<Vec<u8>, OutOfMemory>
-    ensures text { IfOk result (λ text. text.items ≡ folded_text title.now printed.now) }
+pub fn add_folded_piece(text: &mut Vec<u8>, title: &[u8], printed: &[u8]) -> Result<(), OutOfMemory>
+    ensures added { OnOk result (text.new.items ≡ text.old.items ++ folded_text title.now printed.now) }
 {
-    let mut text = Vec::new(alloc);
-    add(&mut text, b"<details><summary>")?;
-    add(&mut text, title)?;
-    add(&mut text, b"</summary>\n")?;
-    add_printed(&mut text, printed)?;
-    add(&mut text, b"</details>\n")?;
-    Ok(text)
+    add(text, b"<details><summary>")?;
+    add(text, title)?;
+    add(text, b"</summary>\n")?;
+    add_printed(text, printed)?;
+    add(text, b"</details>\n")
 }
 
 // Adds a text as it was printed.

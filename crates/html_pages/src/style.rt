@@ -28,6 +28,7 @@ svg rect{fill:var(--card);stroke:var(--line);rx:6}
 svg text{font-size:14px;fill:var(--ink)}
 svg .t{font-weight:700}
 svg .k{text-decoration:underline}
+svg .o{text-decoration:underline dashed}
 svg path{fill:none;stroke:var(--mark);stroke-width:1.5}
 svg circle{fill:var(--mark)}
 @media print{pre{white-space:pre-wrap}}

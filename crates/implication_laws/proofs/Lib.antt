@@ -9,8 +9,13 @@ mod AlikeLaws
 mod CoverLaws
 mod PartedLists
 mod MinimalLaws
+mod CanonicalLaws
+mod ConfirmedLaws
 mod ExhibitLaws
 mod FoundLaws
+mod WrittenSchemas
+pub mod WrittenCovers
+mod ProjectLaws
 pub mod StepLaws
 pub mod OneAnswer
 pub mod OneDerivation
@@ -19,4 +24,5 @@ pub mod OneProjection
 pub mod OneReasons
 mod EveryKeyLaws
 pub mod OneDecision
+pub mod ExplainedGoals
 pub mod OnePlanAnswer

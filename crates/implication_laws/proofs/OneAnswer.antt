@@ -44,7 +44,7 @@ use Rattle.desk_texts.specs.Texts.{line, set_line}
 use Rattle.desk_refusals.specs.Refusals.{goal_refusal_text, set_refusal_text}
 use Rattle.desk_implication.specs.Bases.{TellsBasis, GivesBasis, blocks_text}
 use Rattle.desk_implication.specs.Certificates.{Checked, ChecksProof}
-use Rattle.desk_covers.specs.Covering.{GivesCover}
+use Rattle.desk_covers.specs.Covering.{GivesCanonicalCover, GivesCover}
 use Rattle.desk_discovery.specs.Discoveries.{FindsRules, FindsSmallRules, GivesRules, GivesSmallRules, RefusesRules, found_text, left_sides_text}
 use Rattle.near_rules.specs.NearRules.{IsFirstExceeded}
 use Rattle.near_rules.specs.declared.found.TooManyTried.{TooManyTried}
@@ -61,7 +61,7 @@ use Rattle.implication_laws.specs.OneAnswer.{AllowsOne}
 use Rattle.implication_laws.proofs.AlikeLaws.{none_lacking, names_go}
 use Rattle.implication_laws.proofs.GoalLemmas.{one_goal, goal_goes}
 use Rattle.implication_laws.proofs.OneBasis.{one_closed, one_blocks}
-use Rattle.implication_laws.proofs.OneCover.{one_whole_cover}
+use Rattle.implication_laws.proofs.OneCover.{one_canonical_cover, one_whole_cover}
 use Rattle.implication_laws.proofs.OneKey.{one_keys, before_one_way, ascends, each_key, key_listed}
 use Rattle.implication_laws.proofs.OneList.{one_differences, one_near_rules, one_row_keys, one_rules, one_small_rules, one_list_of_all}
 use Rattle.dep_model.proofs.OrderedLists.{no_longer}
@@ -142,6 +142,11 @@ pub one_cover_answer : (schema : Schema) → AllowsOne (GivesCover schema)
 one_cover_answer schema one other (whole, fixed, minimal, covers, says) (entire, also, minimal_too, covers_too, said) =
     same_says Yes _ _ one other says said
     (ap (schema_text schema) (one_whole_cover (width_of schema) (theory_of schema) whole entire fixed also))
+
+pub one_canonical_answer : (schema : Schema) → AllowsOne (GivesCanonicalCover schema)
+one_canonical_answer schema one other (cover, fixed, canonical, covers, says) (more, also, canonical_too, covers_too, said) =
+    same_says Yes _ _ one other says said
+    (ap (schema_text schema) (one_canonical_cover (width_of schema) (theory_of schema) cover more fixed also))
 
 -- ---- bases
 one_told : (schema : Schema) (x : Attributes) → AllowsOne (TellsBasis schema x)

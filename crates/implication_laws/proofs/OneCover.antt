@@ -1,10 +1,12 @@
--- A list of dependencies has one fixed cover, and one fixed whole cover.
+-- A list of dependencies has one fixed cover, one fixed whole cover, and one fixed canonical cover.
 use Rattle.std.proofs.Common.{◌≡◌, ◌+◌, ℕ, List, [], ◌∷◌, ◌++◌, refl, sym, subst, ap, ◌∙◌, inl, inr}
 use Rattle.std.specs.List.{AllZip, flat_map}
 use Rattle.attr_sets.specs.Attributes.{Attributes}
 use Rattle.attr_sets.proofs.NarrowingLemmas.{one_narrowed_ascending}
 use Rattle.dep_model.specs.Dependencies.{Dependency, fd, functional_part, left_of, right_of}
 use Rattle.dep_model.specs.Implication.{Implies}
+use Rattle.canonical_cover.specs.Canonical.{IsFixedCanonicalCover}
+use Rattle.canonical_cover.specs.Merging.{merge_left_sides}
 use Rattle.min_cover.specs.Covers.{IsThinned, IsFixedCover, IsFixedWholeCover, multivalued_part}
 use Rattle.min_cover.specs.Members.{members_of, IsLeftReducedDependency}
 
@@ -51,3 +53,9 @@ one_whole_cover n ds one other first second =
     let same : first.cover ≡ second.cover = one_cover n ds first.cover second.cover first.fixed second.fixed in
     one_thinned n second.cover (multivalued_part ds) one other
     (subst (λ (cover : List Dependency). IsThinned n cover (multivalued_part ds) one) same first.thinned) second.thinned
+
+-- ---- the left sides merged
+pub one_canonical_cover : (n : ℕ) (ds one other : List Dependency) → IsFixedCanonicalCover n ds one
+    → IsFixedCanonicalCover n ds other → one ≡ other
+one_canonical_cover n ds one other first second =
+    first.once ∙ ap merge_left_sides (one_whole_cover n ds first.whole second.whole first.fixed second.fixed) ∙ sym second.once

@@ -12,6 +12,7 @@ use Rattle.closure_steps.specs.Steps.{ClosureStepValue, reached}
 use Rattle.closure_steps.specs.Without.{IsClosureWithout, AreClosuresWithout}
 use Rattle.closure_steps.proofs.StepLemmas.{one_list}
 use Rattle.cover_accounts.specs.declared.diagnostic.CoverDiagnostic.{CoverDiagnostic}
+use Rattle.cover_accounts.specs.declared.diagnostic.CoverForm.{CoverForm}
 use Rattle.cover_accounts.specs.CoverDiagnostics.{IsCoverDiagnostic, IsBeforePlace, AreCoverDiagnostics, position_of, rank_of}
 use Rattle.dep_model.specs.Dependencies.{Dependency, fd}
 use Rattle.dep_model.specs.Keys.{InClosure}
@@ -22,7 +23,7 @@ use Rattle.schema_match.specs.Columns.{SameNames}
 use Rattle.schema_printer.specs.Printing.{set_text}
 use Rattle.schema_printer.specs.Spelling.{printed_names_of}
 use Rattle.desk_implication.specs.Closures.{IsBesideText, ComesAbout, TellsClosure, GivesClosure, closure_text}
-use Rattle.desk_covers.specs.CoverChecks.{TestsMinimal, TestsCover, ChecksCover, diagnostics_text}
+use Rattle.desk_covers.specs.CoverChecks.{TestsForm, TestsCover, ChecksCoverForm, diagnostics_text}
 use Rattle.desk_arguments.specs.Goals.{SetStops, IsSetText}
 use Rattle.desk_keys.specs.KeyChecks.{IsKeyText, IsNoSuperkey, HasKeyWithin, TestsKey, ChecksKey, key_within_text, no_superkey_text, without_text}
 use Rattle.desk_covers.specs.Sameness.{NameStops, different_text}
@@ -191,46 +192,48 @@ one_key_answer s set =
     (λ x y is also. one_set (naming_of s) (names_of s) set x y is.means also.means) (λ x is. one_tested_key s x)
 
 -- ---- covers
-diagnostics_one_way : (n : ℕ) (ds : List Dependency)
-    → IsOneWay (IsCoverDiagnostic n ds) (λ (c : CoverDiagnostic) (d : CoverDiagnostic). IsBeforePlace (position_of d) (rank_of d) c)
-diagnostics_one_way n ds c d c_is d_is (inl there) (inl back) = omega (arith, there, back)
-diagnostics_one_way n ds c d c_is d_is (inl there) (inr (at, back)) = omega (arith, there, at)
-diagnostics_one_way n ds c d c_is d_is (inr (at, there)) (inl back) = omega (arith, at, back)
-diagnostics_one_way n ds c d c_is d_is (inr (at, there)) (inr (also, back)) = omega (arith, there, back)
+diagnostics_one_way : (form : CoverForm) (n : ℕ) (ds : List Dependency)
+    → IsOneWay (IsCoverDiagnostic form n ds) (λ (c : CoverDiagnostic) (d : CoverDiagnostic). IsBeforePlace (position_of d) (rank_of d) c)
+diagnostics_one_way form n ds c d c_is d_is (inl there) (inl back) = omega (arith, there, back)
+diagnostics_one_way form n ds c d c_is d_is (inl there) (inr (at, back)) = omega (arith, there, at)
+diagnostics_one_way form n ds c d c_is d_is (inr (at, there)) (inl back) = omega (arith, at, back)
+diagnostics_one_way form n ds c d c_is d_is (inr (at, there)) (inr (also, back)) = omega (arith, there, back)
 
-one_diagnostic_list : (n : ℕ) (ds : List Dependency) (one other : List CoverDiagnostic) → AreCoverDiagnostics n ds one
-    → AreCoverDiagnostics n ds other → one ≡ other
-one_diagnostic_list n ds one other first second =
-    one_ordered_list (IsCoverDiagnostic n ds) (λ (c : CoverDiagnostic) (d : CoverDiagnostic). IsBeforePlace (position_of d) (rank_of d) c)
-    one other (diagnostics_one_way n ds)
+one_diagnostic_list : (form : CoverForm) (n : ℕ) (ds : List Dependency) (one other : List CoverDiagnostic)
+    → AreCoverDiagnostics form n ds one → AreCoverDiagnostics form n ds other → one ≡ other
+one_diagnostic_list form n ds one other first second =
+    one_ordered_list (IsCoverDiagnostic form n ds) (λ (c : CoverDiagnostic) (d : CoverDiagnostic). IsBeforePlace (position_of d) (rank_of d) c)
+    one other (diagnostics_one_way form n ds)
     (λ k d low. first.each _ (Contains-get_or one k d low)) (λ k d low. second.each _ (Contains-get_or other k d low))
     first.ordered second.ordered
     (λ c has. second.all c (first.each c has)) (λ c has. first.all c (second.each c has))
 
-one_minimal : (s : Schema) → AllowsOne (TestsMinimal s)
-one_minimal s one other (found, first, inl (none, says)) (also, second, inl (empty, said)) = says ∙ sym said
-one_minimal s one other (found, first, inl (none, says)) (also, second, inr (some, said)) =
-    absurd (some (one_diagnostic_list (width_of s) (theory_of s) also found second first ∙ none))
-one_minimal s one other (found, first, inr (some, says)) (also, second, inl (none, said)) =
-    absurd (some (one_diagnostic_list (width_of s) (theory_of s) found also first second ∙ none))
-one_minimal s one other (found, first, inr (some, says)) (also, second, inr (more, said)) =
+one_tested : (form : CoverForm) (s : Schema) → AllowsOne (TestsForm form s)
+one_tested form s one other (found, first, inl (none, says)) (also, second, inl (empty, said)) = says ∙ sym said
+one_tested form s one other (found, first, inl (none, says)) (also, second, inr (some, said)) =
+    absurd (some (one_diagnostic_list form (width_of s) (theory_of s) also found second first ∙ none))
+one_tested form s one other (found, first, inr (some, says)) (also, second, inl (none, said)) =
+    absurd (some (one_diagnostic_list form (width_of s) (theory_of s) found also first second ∙ none))
+one_tested form s one other (found, first, inr (some, says)) (also, second, inr (more, said)) =
     same_says No _ _ one other says said
-    (ap (diagnostics_text s) (one_diagnostic_list (width_of s) (theory_of s) found also first second))
+    (ap (diagnostics_text s) (one_diagnostic_list form (width_of s) (theory_of s) found also first second))
 
-one_tested_cover : (s other : Schema) (file other_file : List ℕ) → AllowsOne (TestsCover s other file other_file)
-one_tested_cover s other file other_file one two (inl (there, back, differ, says)) (inl (of_s, of_other, also, said)) =
+one_tested_cover : (form : CoverForm) (s other : Schema) (file other_file : List ℕ)
+    → AllowsOne (TestsCover form s other file other_file)
+one_tested_cover form s other file other_file one two (inl (there, back, differ, says)) (inl (of_s, of_other, also, said)) =
     same_says No _ _ one two says said
     (ap (λ (ks : List ℕ). different_text s other file other_file ks back) (one_differences s other there of_s differ.there also.there)
     ∙ ap (different_text s other file other_file of_s) (one_differences other s back of_other differ.back also.back))
-one_tested_cover s other file other_file one two (inl (there, back, differ, says)) (inr (same, tests)) =
+one_tested_cover form s other file other_file one two (inl (there, back, differ, says)) (inr (same, tests)) =
     absurd (differ.legal same.legal)
-one_tested_cover s other file other_file one two (inr (same, tests)) (inl (there, back, differ, says)) =
+one_tested_cover form s other file other_file one two (inr (same, tests)) (inl (there, back, differ, says)) =
     absurd (differ.legal same.legal)
-one_tested_cover s other file other_file one two (inr (same, tests)) (inr (also, again)) = one_minimal other one two tests again
+one_tested_cover form s other file other_file one two (inr (same, tests)) (inr (also, again)) = one_tested form other one two tests again
 
-pub one_cover_check : (s other : Schema) (file other_file : List ℕ) → AllowsOne (ChecksCover s other file other_file)
-one_cover_check s other file other_file =
-    Unless-one (NameStops s other file other_file) (SameNames s other) (TestsCover s other file other_file)
+pub one_cover_check : (form : CoverForm) (s other : Schema) (file other_file : List ℕ)
+    → AllowsOne (ChecksCoverForm form s other file other_file)
+one_cover_check form s other file other_file =
+    Unless-one (NameStops s other file other_file) (SameNames s other) (TestsCover form s other file other_file)
     (one_name_stop s other file other_file)
     (λ response names. names_go s other file other_file response names)
-    (λ names. one_tested_cover s other file other_file)
+    (λ names. one_tested_cover form s other file other_file)

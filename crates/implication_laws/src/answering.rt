@@ -5,13 +5,14 @@ ghost use Rattle.attr_sets.specs.Attributes.{Attributes};
 ghost use Rattle.derivation.specs.Trees.{Tree};
 ghost use Rattle.dep_model.specs.Dependencies.{Dependency};
 ghost use Rattle.schema_model.specs.Schemas.{Schema};
+ghost use Rattle.derivation_grammar.specs.Lines.{DerivationLine};
 ghost use Rattle.headed_rows.specs.Headings.{HeadedRows};
 ghost use Rattle.desk_implication.specs.Bases.{GivesBasis};
 ghost use Rattle.desk_implication.specs.Certificates.{ChecksProof};
 ghost use Rattle.desk_implication.specs.Closures.{GivesClosure};
-ghost use Rattle.desk_covers.specs.CoverChecks.{ChecksCover};
+ghost use Rattle.desk_covers.specs.CoverChecks.{ChecksCanonicalCover, ChecksCover};
 ghost use Rattle.desk_covers.specs.CoverReasons.{ExplainsCover};
-ghost use Rattle.desk_covers.specs.Covering.{GivesCover};
+ghost use Rattle.desk_covers.specs.Covering.{GivesCanonicalCover, GivesCover};
 ghost use Rattle.desk_implication.specs.Derivations.{ChecksDerivation};
 ghost use Rattle.desk_discovery.specs.Discoveries.{FindsRules, FindsSmallRules, RefusesRules};
 ghost use Rattle.desk_discovery.specs.AllDiscoveries.{FindsAllRules};
@@ -43,15 +44,16 @@ pub fn check_proof_has_one_answer()
     ensures law { (schema : Schema) (tree : Tree) (goal : List ℕ) → AllowsOne (ChecksProof schema tree goal) }
 {}
 
-/// `check derivation` has one answer to what a text derives and a goal.
+/// `check derivation` has one answer to the lines of a derivation and a goal.
 pub fn check_derivation_has_one_answer()
-    ensures law { (schema : Schema) (derived : Dependency) (goal : List ℕ)
-        → AllowsOne (ChecksDerivation schema derived goal) }
+    ensures law { (schema : Schema) (lines : List DerivationLine) (goal : List ℕ)
+        → AllowsOne (ChecksDerivation schema lines goal) }
 {}
 
-/// `cover` has one answer.
+/// `cover` has one answer, and so has `cover canonical`.
 pub fn cover_has_one_answer()
     ensures law { (schema : Schema) → AllowsOne (GivesCover schema) }
+    ensures canonical { (schema : Schema) → AllowsOne (GivesCanonicalCover schema) }
 {}
 
 /// `basis` has one answer to a set.
@@ -80,10 +82,12 @@ pub fn check_key_has_one_answer()
     ensures law { (schema : Schema) (set : List ℕ) → AllowsOne (ChecksKey schema set) }
 {}
 
-/// `check cover` has one answer.
+/// `check cover` has one answer, and so has `check cover canonical`.
 pub fn check_cover_has_one_answer()
     ensures law { (schema other : Schema) (file other_file : List ℕ)
         → AllowsOne (ChecksCover schema other file other_file) }
+    ensures canonical { (schema other : Schema) (file other_file : List ℕ)
+        → AllowsOne (ChecksCanonicalCover schema other file other_file) }
 {}
 
 /// `explain cover` and `explain keys` have one answer.

@@ -15,6 +15,7 @@ ghost use Rattle.dep_model.specs.Tuples.{Relation};
 ghost use Rattle.schema_model.specs.Schemas.{Schema};
 ghost use Rattle.fd_discovery.specs.Minimal.{AreAllMinimal};
 ghost use Rattle.key_listing.specs.Listing.{AreAllKeys};
+ghost use Rattle.canonical_cover.specs.Canonical.{IsFixedCanonicalCover};
 ghost use Rattle.min_cover.specs.Covers.{IsFixedCover, IsFixedWholeCover};
 ghost use Rattle.schema_match.specs.Differences.{AreDifferences};
 
@@ -34,6 +35,12 @@ pub fn one_fixed_cover()
 pub fn one_fixed_whole_cover()
     ensures law { (n : ℕ) (ds one other : List Dependency)
         → IsFixedWholeCover n ds one → IsFixedWholeCover n ds other → one ≡ other }
+{}
+
+/// A list of dependencies has one fixed canonical cover.
+pub fn one_fixed_canonical_cover()
+    ensures law { (n : ℕ) (ds one other : List Dependency)
+        → IsFixedCanonicalCover n ds one → IsFixedCanonicalCover n ds other → one ≡ other }
 {}
 
 /// A scheme has one list of all its keys, as sets of attributes.

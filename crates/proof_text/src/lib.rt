@@ -17,7 +17,7 @@ mod words;
 
 pub use line::{Body, read_body, stated_dependency};
 pub use node::{Concluded, same_dependency};
-pub use printing::print_proof;
+pub use printing::{add_body, body_of_leaf, print_proof};
 pub use proof_grammar::{ProofRefusal, ProofRefusalKind};
 pub use text::{MOST_PROOF_BYTES, is_blank, is_yes, read_concluded};
 pub use words::{colon, rule_word};

@@ -144,7 +144,8 @@ fn stated_by_pair(rule: PairRule, first: Dep, second: Dep) -> Dep
     }
 }
 
-fn body_of_leaf(rule: LeafRule) -> Body
+/// The line's body of a rule without premises.
+pub fn body_of_leaf(rule: LeafRule) -> Body
     ensures body { body_of result ≡ leaf_body (leaf_of rule) }
 {
     match rule {
@@ -174,8 +175,9 @@ fn add_line(
     add(text, b"\n")
 }
 
+/// Adds a rule with the lines of its premises and its sets.
 #[tactic(auto, unfolding(proof_grammar::specs::Printing::body_text))]
-fn add_body(
+pub fn add_body(
     text: &mut Vec<u8>,
     alloc: Global,
     schema: &Schema,

@@ -17,6 +17,7 @@ use Rattle.schema_grammar.specs.Texts.{declarations_of}
 use Rattle.schema_grammar.specs.declared.refusal.SchemaRefusal.{SchemaRefusal}
 use Rattle.schema_grammar.proofs.DeclaredNames.{declared_are_names}
 use Rattle.derivation.specs.Trees.{Tree}
+use Rattle.derivation_grammar.specs.Lines.{DerivationLine}
 use Rattle.proof_grammar.specs.Diagnostics.{LineDiagnostic}
 use Rattle.proof_grammar.specs.RefusalTexts.{diagnostic_number, diagnostic_text, position_text}
 use Rattle.plan_grammar.specs.Refusals.{plan_diagnostic_kind}
@@ -182,11 +183,11 @@ module _ (names : List (List ℕ)) where
       after_proof rest later =
           after_file (proof_file s) r file given (λ why. proof_refusal s are_names file why given) rest (λ tree is. later tree)
 
-      pub after_derivation : (rest : Dependency → Allowed) → ((derived : Dependency) → RefusesSo names (rest derived))
+      pub after_derivation : (rest : List DerivationLine → Allowed) → ((lines : List DerivationLine) → RefusesSo names (rest lines))
           → RefusesSo names (WithFile (derivation_file s) r file rest)
       after_derivation rest later =
           after_file (derivation_file s) r file given (λ why. derivation_refusal s are_names file why given) rest
-          (λ derived is. later derived)
+          (λ lines is. later lines)
 
   -- files of tables, all of which are named
   parts_stop : (r : Reading) (s : Schema) → All IsName (names_of s) → (files : List (List ℕ))

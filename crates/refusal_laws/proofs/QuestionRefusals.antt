@@ -2,6 +2,7 @@
 use Rattle.std.proofs.Common.{◌≡◌, ℕ, List, [], ◌++◌, Option, refl, inl, inr}
 use Rattle.std.specs.Prelude.{All, Contains, codes, slice_get}
 use Rattle.attr_sets.specs.Attributes.{Attributes}
+use Rattle.cover_accounts.specs.declared.diagnostic.CoverForm.{CoverForm}
 use Rattle.derivation.specs.Trees.{Tree}
 use Rattle.dep_model.specs.Dependencies.{Dependency}
 use Rattle.schema_model.specs.Names.{IsName}
@@ -10,15 +11,18 @@ use Rattle.schema_model.proofs.PlainLemmas.{IsPlain, plain_both}
 use Rattle.schema_printer.specs.Printing.{set_text}
 use Rattle.schema_printer.specs.Spelling.{printed_names_of}
 use Rattle.schema_match.specs.Columns.{IsDeclaredBy, SameNames}
-use Rattle.desk_covers.specs.CoverChecks.{ChecksCover, TestsCover, TestsMinimal}
+use Rattle.desk_covers.specs.CoverChecks.{ChecksCoverForm, TestsCover, TestsForm}
 use Rattle.desk_covers.specs.CoverReasons.{AreCoverReasons, ExplainsCover}
-use Rattle.desk_covers.specs.Covering.{GivesCover}
+use Rattle.desk_covers.specs.Covering.{GivesCanonicalCover, GivesCover}
 use Rattle.desk_covers.specs.Sameness.{ChecksSame, Compares, LacksName, NameStops, WithSameNames, not_in_text}
 use Rattle.desk_exhibits.specs.Exhibits.{Exhibits}
 use Rattle.desk_implication.specs.Bases.{GivesBasis, TellsBasis}
 use Rattle.desk_implication.specs.Certificates.{Checked, ChecksProof}
 use Rattle.desk_implication.specs.Closures.{GivesClosure, TellsClosure}
-use Rattle.desk_implication.specs.Derivations.{ChecksDerivation, DerivationChecked}
+use Rattle.derivation_grammar.specs.Lines.{DerivationLine}
+use Rattle.derivation_mistakes.specs.Mistakes.{MistakenLine}
+use Rattle.desk_implication.specs.Derivations.{ChecksDerivation, DerivationChecked, DerivationJudged}
+use Rattle.desk_implication.specs.Explanations.{ExplainsGoal, ExplainsImplication}
 use Rattle.desk_implication.specs.Implication.{Decided, DecidesGoal}
 use Rattle.desk_implication.specs.Projections.{Projects, ProjectsSet}
 use Rattle.desk_keys.specs.KeyChecks.{ChecksKey, TestsKey}
@@ -60,6 +64,13 @@ module _ (names : List (List ℕ)) (s : Schema) (are_names : All IsName (names_o
   pub implication_refuses : (goal : List ℕ) → RefusesSo names (DecidesGoal s goal)
   implication_refuses goal = after_goal names s goal (Decided s) decided
 
+  explained : (goal : Dependency) → RefusesSo names (ExplainsGoal s goal)
+  explained goal response (inl (implied, (lines, found, said))) refused = says_yes names _ response said refused
+  explained goal response (inr (broken, found)) refused = decided goal response found refused
+
+  pub explained_implication_refuses : (goal : List ℕ) → RefusesSo names (ExplainsImplication s goal)
+  explained_implication_refuses goal = after_goal names s goal (ExplainsGoal s) explained
+
   checked : (tree : Tree) (goal : Dependency) → RefusesSo names (Checked s tree goal)
   checked tree goal response (inl (proves, implied, said)) refused = says_yes names _ response said refused
   checked tree goal response (inr (other, (concluded, proves, said))) refused = says_no names _ response said refused
@@ -67,12 +78,17 @@ module _ (names : List (List ℕ)) (s : Schema) (are_names : All IsName (names_o
   pub proof_refuses : (tree : Tree) (goal : List ℕ) → RefusesSo names (ChecksProof s tree goal)
   proof_refuses tree goal = after_goal names s goal (Checked s tree) (checked tree)
 
-  derivation_checked : (derived goal : Dependency) → RefusesSo names (DerivationChecked s derived goal)
-  derivation_checked derived goal response (inl (same, implied, said)) refused = says_yes names _ response said refused
-  derivation_checked derived goal response (inr (other, said)) refused = says_no names _ response said refused
+  derivation_judged : (found : List MistakenLine) (concluded goal : Dependency)
+      → RefusesSo names (DerivationJudged s found concluded goal)
+  derivation_judged found concluded goal response (inl h) refused = says_yes names _ response h.3 refused
+  derivation_judged found concluded goal response (inr (inl h)) refused = says_no names _ response h.2 refused
+  derivation_judged found concluded goal response (inr (inr h)) refused = says_no names _ response h.1 refused
 
-  pub derivation_refuses : (derived : Dependency) (goal : List ℕ) → RefusesSo names (ChecksDerivation s derived goal)
-  derivation_refuses derived goal = after_goal names s goal (DerivationChecked s derived) (derivation_checked derived)
+  derivation_checked : (lines : List DerivationLine) (goal : Dependency) → RefusesSo names (DerivationChecked s lines goal)
+  derivation_checked lines goal response h refused = derivation_judged h.0 h.1 goal response h.4 refused
+
+  pub derivation_refuses : (lines : List DerivationLine) (goal : List ℕ) → RefusesSo names (ChecksDerivation s lines goal)
+  derivation_refuses lines goal = after_goal names s goal (DerivationChecked s lines) (derivation_checked lines)
 
   -- ---- sets
   basis_told : (x : Attributes) → RefusesSo names (TellsBasis s x)
@@ -134,6 +150,9 @@ module _ (names : List (List ℕ)) (s : Schema) (are_names : All IsName (names_o
   pub cover_refuses : RefusesSo names (GivesCover s)
   cover_refuses response (whole, fixed, minimal, is, said) refused = says_yes names _ response said refused
 
+  pub canonical_cover_refuses : RefusesSo names (GivesCanonicalCover s)
+  canonical_cover_refuses response (cover, fixed, canonical, is, said) refused = says_yes names _ response said refused
+
   pub explained_cover_refuses : RefusesSo names (ExplainsCover s)
   explained_cover_refuses = explained_refuses names (AreCoverReasons s) (GivesCover s) cover_refuses
 
@@ -164,13 +183,13 @@ module _ (names : List (List ℕ)) (s t : Schema) (are_names : All IsName (names
   pub same_refuses : RefusesSo names (ChecksSame s t file other_file)
   same_refuses = same_names (Compares s t file other_file) compared
 
-  minimal_tested : RefusesSo names (TestsMinimal t)
-  minimal_tested response (found, are, inl (none, said)) refused = says_yes names _ response said refused
-  minimal_tested response (found, are, inr (some, said)) refused = says_no names _ response said refused
+  form_tested : (form : CoverForm) → RefusesSo names (TestsForm form t)
+  form_tested form response (found, are, inl (none, said)) refused = says_yes names _ response said refused
+  form_tested form response (found, are, inr (some, said)) refused = says_no names _ response said refused
 
-  cover_tested : RefusesSo names (TestsCover s t file other_file)
-  cover_tested response (inl (of_schema, of_other, differ, said)) refused = says_no names _ response said refused
-  cover_tested response (inr (same, tests)) refused = minimal_tested response tests refused
+  cover_tested : (form : CoverForm) → RefusesSo names (TestsCover form s t file other_file)
+  cover_tested form response (inl (of_schema, of_other, differ, said)) refused = says_no names _ response said refused
+  cover_tested form response (inr (same, tests)) refused = form_tested form response tests refused
 
-  pub check_cover_refuses : RefusesSo names (ChecksCover s t file other_file)
-  check_cover_refuses = same_names (TestsCover s t file other_file) cover_tested
+  pub check_cover_refuses : (form : CoverForm) → RefusesSo names (ChecksCoverForm form s t file other_file)
+  check_cover_refuses form = same_names (TestsCover form s t file other_file) (cover_tested form)

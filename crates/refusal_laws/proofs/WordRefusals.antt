@@ -9,9 +9,8 @@ use Rattle.schema_model.specs.Schemas.{Schema, names_of}
 use Rattle.headed_rows.specs.Headings.{HeadedRows, discovered}
 use Rattle.plan_printer.specs.NamedPlans.{NamedSchemes}
 use Rattle.table_join.specs.Tables.{tables_of}
-use Rattle.desk_cli.specs.Performs.{Answers, AnswersPlan, AnswersRows, AnswersRules, AnswersSchema, Does, Performs, WithValues}
-use Rattle.desk_covers.specs.CoverChecks.{ChecksCover}
-use Rattle.desk_covers.specs.Sameness.{ChecksSame}
+use Rattle.cover_accounts.specs.declared.diagnostic.CoverForm.TheVariants.{Canonical, Minimal}
+use Rattle.desk_cli.specs.Performs.{AnswersPair, Answers, AnswersPlan, AnswersRows, AnswersRules, AnswersSchema, Does, Performs, WithValues}
 use Rattle.desk_discovery.specs.AllDiscoveries.{FindsAllRules}
 use Rattle.desk_implication.specs.Certificates.{ChecksProof}
 use Rattle.desk_implication.specs.Derivations.{ChecksDerivation}
@@ -32,13 +31,13 @@ use Rattle.desk_tables.specs.Overwriting.{MigratesHere, MigratesPlanHere}
 use Rattle.desk_tables.specs.Rejoining.{JoinsTables}
 use Rattle.desk_texts.specs.Texts.{unknown_words_text}
 use Rattle.desk_words.specs.Forms as form
-use Rattle.desk_words.specs.Forms.{CommandForm, PlanQuestion, RowsQuestion, RulesQuestion, SchemaQuestion, Task, form_of}
+use Rattle.desk_words.specs.Forms.{CommandForm, PairQuestion, PlanQuestion, RowsQuestion, RulesQuestion, SchemaQuestion, Task, form_of}
 use Rattle.refusal_laws.specs.Refusals.{IsRefusal, names_of_command, names_of_task, names_of_words}
 use Rattle.refusal_laws.proofs.FileRefusals.{after_derivation, after_headed, after_parts, after_plan, after_proof, after_rows, after_schema, after_sql}
 use Rattle.refusal_laws.proofs.FileRefusals.{after_headed_files}
 use Rattle.refusal_laws.proofs.FormRefusals.{explained_fewest_refuses, fewest_refuses, form_of_all_refuses, forms_refuse}
 use Rattle.refusal_laws.proofs.PlanRefusals.{check_scripted, explained_split_refuses, explained_synthesis_refuses, form_drawn, form_into, form_placed, form_refuses, form_scripted, form_written, join_refuses, joined, keeping_refuses, measure_scripted, plan_drawn, plan_into, plan_placed, plan_scripted, plan_written, rows_refuse, sample_refuses, split_refuses, synthesis_refuses, wide_split_refuses}
-use Rattle.refusal_laws.proofs.QuestionRefusals.{basis_refuses, check_cover_refuses, closure_refuses, cover_refuses, derivation_refuses, exhibit_refuses, explained_cover_refuses, explained_keys_refuse, implication_refuses, key_refuses, keys_refuse, plan_keys_refuse, projection_refuses, proof_refuses, same_refuses}
+use Rattle.refusal_laws.proofs.QuestionRefusals.{basis_refuses, canonical_cover_refuses, check_cover_refuses, closure_refuses, cover_refuses, derivation_refuses, exhibit_refuses, explained_cover_refuses, explained_implication_refuses, explained_keys_refuse, implication_refuses, key_refuses, keys_refuse, plan_keys_refuse, projection_refuses, proof_refuses, same_refuses}
 use Rattle.refusal_laws.proofs.ReferenceRefusals.{check_references_refuses, references_refuse}
 use Rattle.refusal_laws.proofs.RefusalLemmas.{RefusesSo, says_plain, says_yes}
 use Rattle.refusal_laws.proofs.RowRefusals.{all_rules_refuse, columns_refuse, import_refuses, kept_refuses, measure_refuses, near_rules_refuse, offences_by_row_refuse, offences_refuse, page_refuses, plan_page_refuses, row_keys_refuse, rules_refuse, small_rules_refuse}
@@ -50,6 +49,7 @@ module _ (names : List (List ℕ)) (s : Schema) (are_names : All IsName (names_o
   unfolding AnswersSchema
   of_schema (form.implies goal) = implication_refuses names s are_names goal
   of_schema form.cover = cover_refuses names s are_names
+  of_schema form.cover_canonical = canonical_cover_refuses names s are_names
   of_schema (form.basis set) = basis_refuses names s are_names set
   of_schema (form.closure set) = closure_refuses names s are_names set
   of_schema (form.project set) = projection_refuses names s are_names set
@@ -61,6 +61,7 @@ module _ (names : List (List ℕ)) (s : Schema) (are_names : All IsName (names_o
   of_schema (form.split normal) = split_refuses names s are_names normal
   of_schema form.split_wide = wide_split_refuses names s are_names
   of_schema form.exhibit = exhibit_refuses names s are_names
+  of_schema (form.explain_implies goal) = explained_implication_refuses names s are_names goal
   of_schema form.explain_cover = explained_cover_refuses names s are_names
   of_schema form.explain_keys = explained_keys_refuse names s are_names
   of_schema form.explain_synthesize = explained_synthesis_refuses names s are_names
@@ -95,6 +96,14 @@ module _ (names : List (List ℕ)) (s : Schema) (are_names : All IsName (names_o
   of_values r file given response (texts, alone, read) refused =
       after_rows names r file given texts (subst (λ (ns : List (List ℕ)). All IsName ns) (sym alone.names) are_names)
       (MeasuresRows s) (measure_refuses names s) response read refused
+
+module _ (names : List (List ℕ)) (s t : Schema) (are_names : All IsName (names_of s)) (others : All IsName (names_of t))
+    (file other_file : List ℕ) (given : Contains names file) (other_given : Contains names other_file) where
+  of_pair : (question : PairQuestion) → RefusesSo names (AnswersPair s t file other_file question)
+  unfolding AnswersPair
+  of_pair form.check_same = same_refuses names s t are_names others file other_file given other_given
+  of_pair form.check_cover = check_cover_refuses names s t are_names others file other_file given other_given Minimal
+  of_pair form.check_cover_canonical = check_cover_refuses names s t are_names others file other_file given other_given Canonical
 
 of_rules : (file : List ℕ) (question : RulesQuestion) (headed : HeadedRows) → All IsName headed.names
     → RefusesSo (file ∷ []) (AnswersRules question file headed)
@@ -148,18 +157,13 @@ module _ (names : List (List ℕ)) (looks : Looks) (r : Reading) (s : Schema) (a
       after_proof names r file (among file (Contains-head file [])) s are_names (λ tree. ChecksProof s tree goal)
       (λ tree. proof_refuses names s are_names tree goal)
   of_task (form.check_derivation file goal) among =
-      after_derivation names r file (among file (Contains-head file [])) s are_names (λ derived. ChecksDerivation s derived goal)
-      (λ derived. derivation_refuses names s are_names derived goal)
-  of_task (form.check_same file other_file) among =
+      after_derivation names r file (among file (Contains-head file [])) s are_names (λ lines. ChecksDerivation s lines goal)
+      (λ lines. derivation_refuses names s are_names lines goal)
+  of_task (form.of_pair file other_file question) among =
       let given = among file (Contains-head file (other_file ∷ [])) in
       let other_given = among other_file (Contains-later file (other_file ∷ []) other_file (Contains-head other_file [])) in
-      after_schema names r other_file other_given (λ t. ChecksSame s t file other_file)
-      (λ t others. same_refuses names s t are_names others file other_file given other_given)
-  of_task (form.check_cover file other_file) among =
-      let given = among file (Contains-head file (other_file ∷ [])) in
-      let other_given = among other_file (Contains-later file (other_file ∷ []) other_file (Contains-head other_file [])) in
-      after_schema names r other_file other_given (λ t. ChecksCover s t file other_file)
-      (λ t others. check_cover_refuses names s t are_names others file other_file given other_given)
+      after_schema names r other_file other_given (λ t. AnswersPair s t file other_file question)
+      (λ t others. of_pair names s t are_names others file other_file given other_given question)
   of_task (form.rejoin files) among =
       after_parts names r s are_names files among (λ parts. JoinsTables s (tables_of parts))
       (λ parts. joined names s are_names (tables_of parts))
@@ -196,7 +200,7 @@ of_command looks r (form.import_csv file) =
 of_command looks r (form.import_sql dialect file table) =
     after_sql (file ∷ []) r file (Contains-head file []) (ImportsTable dialect table file)
     (import_refuses (file ∷ []) file (Contains-head file []) dialect table)
-of_command looks r (form.sample persons) = sample_refuses [] persons
+of_command looks r (form.sample persons) = λ response found. sample_refuses [] persons response found.1
 of_command looks r form.help = says_yes [] _
 of_command looks r form.version = says_yes [] _
 

@@ -6,3 +6,4 @@ pub mod CompleteLemmas
 pub mod MadeLemmas
 pub mod WithinLemmas
 mod LoopLemmas
+mod PartLemmas

@@ -1,3 +1,4 @@
+mod PrintedTexts
 mod PartFiles
 mod MigratedFiles
 mod StatedReferences

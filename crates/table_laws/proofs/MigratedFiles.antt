@@ -1,5 +1,5 @@
 -- The tables of a migration: each has the rows of an ordered projection.
-use Rattle.std.proofs.Common.{◌≡◌, ◌+◌, ◌<◌, ◌≤◌, ℕ, List, [], ◌∷◌, length, Ok, IsTrue, refl, sym, ap, subst, ◌∙◌, arith}
+use Rattle.std.proofs.Common.{◌≡◌, ◌+◌, ◌<◌, ◌≤◌, ℕ, List, [], ◌∷◌, length, Ok, refl, sym, ap, subst, ◌∙◌, arith}
 use Rattle.std.specs.Prelude.{not, All}
 use Rattle.std.proofs.lemmas.List.{length-map}
 use Rattle.std.proofs.lemmas.List.Elements.{All-cons, All-tail, All-map, All-filter}
@@ -10,7 +10,7 @@ use Rattle.csv_migrate.specs.Migration.{table_of, tables_from}
 use Rattle.csv_rows.specs.Reading.{PartOf}
 use Rattle.csv_rows.specs.declared.reading.TheConstants.{MOST_ROWS}
 use Rattle.column_values.specs.Values.{FitsColumn, FitsColumns}
-use Rattle.schema_model.specs.Names.{is_bare_name}
+use Rattle.table_laws.specs.Marks.{IsUnmarked}
 use Rattle.dep_model.specs.Projections.{project_tuple, projection, ordered_projection}
 use Rattle.schema_model.specs.Schemas.{names_of, nullable_of, width_of}
 use Rattle.dep_model.specs.Tuples.{Tuple, Relation, IsOver, same_tuple, distinct_tuples}
@@ -34,10 +34,10 @@ length-distinct_tuples-le (t ∷ r) =
     omega (arith, length-distinct_tuples-le r, both)
 
 -- ---- one table
-table_back : (s : Schema) (names : GivenNames) (rows : Relation) (number : ℕ) (x : Attributes) → All (λ name. IsTrue (is_bare_name name)) (names_of s)
+table_back : (s : Schema) (names : GivenNames) (rows : Relation) (number : ℕ) (x : Attributes) → All IsUnmarked (names_of s)
     → IsOver (width_of s) rows → FitsColumns s rows → length rows ≤ MOST_ROWS → 0 < count_below x (width_of s)
     → PartOf s (table_file Csv (table_of s names rows number x)).bytes (Ok (ordered_projection x rows))
-table_back s names rows number x proper over typed within_limit not_empty =
+table_back s names rows number x unmarked over typed within_limit not_empty =
     let n = width_of s in
     let each : IsOver (count_below x n) (projection x rows) =
     All-map (λ (u : Tuple). length u ≡ count_below x n) (project_tuple x) rows
@@ -46,19 +46,19 @@ table_back s names rows number x proper over typed within_limit not_empty =
     All-map (FitsItsColumns s x) (project_tuple x) rows
     (λ i d l k column inside is. subst (λ (value : List ℕ). FitsColumn column (nullable_of s k) value) (sym (value_in-project_tuple x _ k inside))
     (typed i d l k column is)) in
-    part_back s x (ordered_projection x rows) proper not_empty
+    part_back s x (ordered_projection x rows) unmarked not_empty
     (all_distinct (λ (u : Tuple). length u ≡ count_below x n) (projection x rows) each)
     (all_distinct (FitsItsColumns s x) (projection x rows) fits)
     (omega (arith, within_limit, length-distinct_tuples-le (projection x rows), length-map rows (project_tuple x)))
 
 -- ---- all tables
 pub tables_back : (s : Schema) (names : GivenNames) (rows : Relation) (number : ℕ) (plan : List Attributes)
-    → All (λ name. IsTrue (is_bare_name name)) (names_of s) → IsOver (width_of s) rows → FitsColumns s rows
+    → All IsUnmarked (names_of s) → IsOver (width_of s) rows → FitsColumns s rows
     → length rows ≤ MOST_ROWS → All (λ (x : Attributes). 0 < count_below x (width_of s)) plan
     → All (λ (table : TableValue). PartOf s (table_file Csv table).bytes (Ok table.rows)) (tables_from s names rows number plan)
-tables_back s names rows number [] proper over typed within_limit not_empty = λ i d l. absurd (omega (arith, l))
-tables_back s names rows number (x ∷ plan) proper over typed within_limit not_empty =
+tables_back s names rows number [] unmarked over typed within_limit not_empty = λ i d l. absurd (omega (arith, l))
+tables_back s names rows number (x ∷ plan) unmarked over typed within_limit not_empty =
     let Back : TableValue → Type 0 = λ table. PartOf s (table_file Csv table).bytes (Ok table.rows) in
     All-cons Back (table_of s names rows number x) (tables_from s names rows (number + 1) plan)
-    (table_back s names rows number x proper over typed within_limit (not_empty 0 x (omega arith)))
-    (tables_back s names rows (number + 1) plan proper over typed within_limit (All-tail (λ (y : Attributes). 0 < count_below y (width_of s)) x plan not_empty))
+    (table_back s names rows number x unmarked over typed within_limit (not_empty 0 x (omega arith)))
+    (tables_back s names rows (number + 1) plan unmarked over typed within_limit (All-tail (λ (y : Attributes). 0 < count_below y (width_of s)) x plan not_empty))

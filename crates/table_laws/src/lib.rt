@@ -1,17 +1,18 @@
 //! Laws of tables and their files. No code.
 //!
 //! Promises: the CSV file of a table means the table's rows, and so does that of each table of a
-//! migration; what stands for a value in its SQL determines the value, also that it is missing; a
-//! design in its order states each reference that it can.
+//! migration, whatever the names, but for those that begin with a byte-order mark; what stands for a
+//! value in its SQL determines the value, also that it is missing; a design in its order states each
+//! reference that it can.
 #![tactic(auto)]
 
-ghost use Rattle.std.specs.Prelude.{◌≡◌, ◌<◌, ◌≤◌, ℕ, Bool, true, List, length, slice_get, Some, All, IsTrue, Ok};
+ghost use Rattle.std.specs.Prelude.{◌≡◌, ◌<◌, ◌≤◌, ℕ, Bool, true, List, length, slice_get, Some, All, Ok};
 ghost use Rattle.attr_sets.specs.Attributes.{Attributes, count_below};
 ghost use Rattle.attr_sets.specs.declared.set.AttrSet.{AttrSet};
 ghost use Rattle.csv_migrate.specs.Migration.{column_names, tables_of_migration};
 ghost use Rattle.csv_rows.specs.Reading.{RowsOf, PartOf};
+ghost use Rattle.csv_text.specs.Rows.{rows_text};
 ghost use Rattle.csv_rows.specs.declared.reading.TheConstants.{MOST_ROWS};
-ghost use Rattle.schema_model.specs.Names.{is_bare_name};
 ghost use Rattle.dep_model.specs.OnSchemes.{value_in};
 ghost use Rattle.dep_model.specs.Plans.{IsPlan, schemes_of};
 ghost use Rattle.column_values.specs.Values.{FitsColumn, FitsColumns};
@@ -28,27 +29,34 @@ ghost use Rattle.named_tables.specs.Tables.{TableValue};
 ghost use Rattle.destinations.specs.Formats.{table_file};
 ghost use Rattle.destinations.specs.Sql.{quoted_text, sql_value, sql_cell};
 ghost use Rattle.destinations.specs.declared.format.TableFormat.TheVariants.{Csv};
+ghost use Rattle.table_laws.specs.Marks.{IsUnmarked};
 ghost use Rattle.table_laws.specs.References.{ReferencesAreStated};
 
 /// The CSV file of a table means its rows, where they fit the types of the columns and are no more than a
-/// file may have: of a table with all attributes of a schema, and of one with some of them, at least one.
+/// file may have, bare names or any, but for names that begin with a byte-order mark: of a table with all
+/// attributes of a schema, and of one with some of them, at least one. So does what is printed of rows with all
+/// attributes.
 pub fn files_of_tables_are_read_back()
-    ensures whole { (s : Schema) (table : TableValue) → All (λ name. IsTrue (is_bare_name name)) (names_of s)
+    ensures whole { (s : Schema) (table : TableValue) → All IsUnmarked (names_of s)
         → table.columns ≡ names_of s → IsOver (width_of s) table.rows → FitsColumns s table.rows
         → length table.rows ≤ MOST_ROWS → RowsOf s (table_file Csv table).bytes (Ok table.rows) }
     ensures part { (s : Schema) (x : Attributes) (table : TableValue)
-        → All (λ name. IsTrue (is_bare_name name)) (names_of s) → 0 < count_below x (width_of s)
+        → All IsUnmarked (names_of s) → 0 < count_below x (width_of s)
         → table.columns ≡ column_names s x → IsOver (count_below x (width_of s)) table.rows
         → All (λ t. (k : ℕ) (column : ColumnType) → x k ≡ true → slice_get (types_of s) k ≡ Some column
         → FitsColumn column (nullable_of s k) (value_in x t k)) table.rows
         → length table.rows ≤ MOST_ROWS → PartOf s (table_file Csv table).bytes (Ok table.rows) }
+    ensures printed { (s : Schema) (rows : Relation) → All IsUnmarked (names_of s) → IsOver (width_of s) rows
+        → FitsColumns s rows → length rows ≤ MOST_ROWS
+        → RowsOf s (rows_text (names_of s) rows) (Ok rows) }
 {}
 
 /// The CSV file of each table of a migration means the rows of that table, where the rows that were migrated
-/// fit the types of the columns and are no more than a file may have, and no scheme of the plan is empty.
+/// fit the types of the columns and are no more than a file may have, no scheme of the plan is empty, and no
+/// name begins with a byte-order mark.
 pub fn migrated_tables_are_read_back()
     ensures law { (s : Schema) (names : GivenNames) (plan : List Attributes) (rows : Relation)
-        → All (λ name. IsTrue (is_bare_name name)) (names_of s) → IsOver (width_of s) rows → FitsColumns s rows
+        → All IsUnmarked (names_of s) → IsOver (width_of s) rows → FitsColumns s rows
         → length rows ≤ MOST_ROWS → All (λ scheme. 0 < count_below scheme (width_of s)) plan
         → All (λ table. PartOf s (table_file Csv table).bytes (Ok table.rows))
         (tables_of_migration s names plan rows) }

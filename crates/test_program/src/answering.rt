@@ -91,6 +91,7 @@ fn a_full_sink_holds_a_prefix(rt: HostRuntime) -> Result<(), Fail> {
 }
 
 const NOTICE: &[u8] = b"refused: the words form no command
+desk explain implies SCHEMA GOAL      the same with a derivation as one writes it by hand, in few lines
 desk explain COMMAND                  reasons above what COMMAND prints: cover, keys, synthesize, synthesize fewest, split bcnf or split 4nf
 ";
 

@@ -21,11 +21,11 @@ returns-then-not-branch c =
     let ds = theory_of s in
     let k = c.args.k in
     let read = read_at s (deps_of s) k first refl c.requires.position in
-    let follows = c.in_ok-follows_from_others.ensures.follows _ read in
+    let follows = c.in_ok-is_told_to_follow.ensures.follows _ read in
     record {
-      before = gather_next n ds k c.args.found.now.items (schema_narrow s) (schema_within s)
-          (gather_skip n ds k (1 + MOST_ATTRIBUTES) c.args.found.now.items c.requires.before
-          (no_following n ds k _ (schema_narrow s) (schema_within s) read
+      before = gather_next c.args.form n ds k c.args.found.now.items (schema_narrow s) (schema_within s)
+          (gather_skip c.args.form n ds k (1 + (MOST_ATTRIBUTES + MOST_ATTRIBUTES)) c.args.found.now.items c.requires.before
+          (no_following c.args.form n ds k _ (schema_narrow s) (schema_within s) read
           (λ is. false≢true (sym c.if-not-branch.true ∙ follows.1 is))));
     }
 
@@ -36,10 +36,10 @@ returns c =
     let ds = theory_of s in
     let k = c.args.k in
     let read = read_at s (deps_of s) k first refl c.requires.position in
-    let follows = c.in_ok-follows_from_others.ensures.follows _ read in
+    let told = (c.in_ok-is_told_to_follow.ensures.follows _ read).0 c.if-not-branch.false in
     record {
-      before = gather_next n ds k c.push.new.self.items (schema_narrow s) (schema_within s)
-          (subst (λ (items : List CoverDiagnostic). AreCoverDiagnosticsBefore n ds k (2 + MOST_ATTRIBUTES) items) (sym c.in_ok-push.ensures.items)
-          (gather_push n ds k (1 + MOST_ATTRIBUTES) c.args.found.now.items (Follows k) (schema_narrow s) (schema_within s) c.requires.before
-          (_, read, follows.0 c.if-not-branch.false) refl refl));
+      before = gather_next c.args.form n ds k c.push.new.self.items (schema_narrow s) (schema_within s)
+          (subst (λ (items : List CoverDiagnostic). AreCoverDiagnosticsBefore c.args.form n ds k (2 + (MOST_ATTRIBUTES + MOST_ATTRIBUTES)) items) (sym c.in_ok-push.ensures.items)
+          (gather_push c.args.form n ds k (1 + (MOST_ATTRIBUTES + MOST_ATTRIBUTES)) c.args.found.now.items (Follows k) (schema_narrow s) (schema_within s) c.requires.before
+          (_, read, told.0, told.1) refl refl));
     }

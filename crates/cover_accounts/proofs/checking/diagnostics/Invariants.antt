@@ -4,4 +4,4 @@ use Rattle.cover_accounts.specs.CheckGathering.{AreCoverDiagnosticsBefore}
 use Rattle.cover_accounts.proofs.checking.diagnostics.Given as goal
 
 abbrev pub invariant-loop-k : goal.invariant-loop-k
-invariant-loop-k l = AreCoverDiagnosticsBefore (width_of l.theory) (theory_of l.theory) l.k 0 l.found.items
+invariant-loop-k l = AreCoverDiagnosticsBefore l.form (width_of l.theory) (theory_of l.theory) l.k 0 l.found.items

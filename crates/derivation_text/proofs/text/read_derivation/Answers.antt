@@ -1,41 +1,34 @@
 -- What is left to prove of `read_derivation`: its clauses, what `read_one` requires, that the invariant
 -- of its loop holds at first and stays, that its loop ends, and that its sums fit.
-use Rattle.std.proofs.Common.{List, ap, arith, drop, length, length-drop, refl, subst, sym, true, ◌+◌, ◌-◌, ◌∙◌, ◌≡◌, ◌≤◌}
-use Rattle.std.specs.Prelude.{All}
+use Rattle.std.proofs.Common.{List, ap, arith, drop, length, length-drop, refl, sym, true, ◌+◌, ◌-◌, ◌∙◌, ◌≡◌, ◌≤◌}
 use Rattle.std.proofs.lemmas.Bool.{cond_both}
 use Rattle.lexer.specs.Lines.{line_texts, without_mark}
 use Rattle.lexer.proofs.LineEnds.{CutsAt-any, cut_last, cut_more}
 use Rattle.dep_model.proofs.FailureLemmas.{refused_is}
-use Rattle.dep_model.specs.declared.dep.Dep.{Dep}
-use Rattle.dep_model.specs.Dependencies.{IsWithin}
-use Rattle.dep_model.specs.Deps.{dependency_of, dependencies_of}
-use Rattle.schema_model.specs.Schemas.{universe_of}
 use Rattle.proof_text.proofs.TextLemmas.{line_within}
 use Rattle.derivation_grammar.specs.Texts.{read_lines, read_derivation}
-use Rattle.derivation_grammar.proofs.Certificates.{derived_is_implied}
-use Rattle.derivation_grammar.proofs.TextLaws.{reading_law, refuses_there, derived_within}
+use Rattle.derivation_grammar.proofs.TextLaws.{reading_law, refuses_there}
+use Rattle.derivation_text.specs.declared.line.DerivationLine.{DerivationLine}
+use Rattle.derivation_text.specs.Views.{derivation_lines_of}
 use Rattle.derivation_text.proofs.text.read_derivation.Goals as goal
 
 pub lines-init : goal.lines-init
 unfolding read_derivation
 lines-init c = record {
-  same = ap (λ (items : List Dep). read_lines c.args.schema.now true 1 (dependencies_of items) (line_texts (without_mark c.args.text.now))) (sym c.new-before.ensures.items)
-      ∙ ap (λ text. read_lines c.args.schema.now true 1 (dependencies_of c.new-before.result.items) (line_texts text)) (sym c.without_mark-rest.ensures.text);
+  same = ap (λ (items : List DerivationLine). read_lines c.args.schema.now true 1 (derivation_lines_of items) (line_texts (without_mark c.args.text.now))) (sym c.new-before.ensures.items)
+      ∙ ap (λ text. read_lines c.args.schema.now true 1 (derivation_lines_of c.new-before.result.items) (line_texts text)) (sym c.without_mark-rest.ensures.text);
   room =
       let text = c.args.text.now in
       let short : length (without_mark text) ≤ length text =
       cond_both _ (drop 3 text) text (λ t. length t ≤ length text) (λ marked. omega (arith, length-drop 3 text))
       (λ bare. omega arith) in
       omega (arith, short, ap length c.without_mark-rest.ensures.text);
-  within = subst (λ (items : List Dep). All (IsWithin (universe_of c.args.schema.now)) (dependencies_of items))
-      (sym c.new-before.ensures.items) (λ k d h. absurd (omega (arith, h)));
 }
 
-pub read_one-requires-clause-fits_u32 : goal.read_one-requires-clause-fits_u32
-read_one-requires-clause-fits_u32 c = omega (arith, c.lines.invariant.room, line_within _ _ _ c.cut_line.ensures.cut)
-
-pub read_one-requires-clause-before : goal.read_one-requires-clause-before
-read_one-requires-clause-before c = c.lines.invariant.within
+pub read_one-requires : goal.read_one-requires
+read_one-requires c = record {
+  fits_u32 = omega (arith, c.lines.invariant.room, line_within _ _ _ c.cut_line.ensures.cut);
+}
 
 pub returns-in-Err-Refused-clause-err : goal.returns-in-Err-Refused-clause-err
 unfolding read_lines
@@ -46,24 +39,16 @@ returns-in-Err-Refused-clause-err c =
     (rw (c.lines.invariant.same, CutsAt-any _ _ _ c.cut_line.ensures.cut, found) refl))
 
 pub returns-in-Err-Refused-clause-within : goal.returns-in-Err-Refused-clause-within
-returns-in-Err-Refused-clause-within c =
-    rw c.in-Err-Refused.field-0-is (refused_is _ _ _ c.in-Err-Refused.field-0-is c.in-Err-Refused.ensures.within)
+returns-in-Err-Refused-clause-within c = λ u.
+    rw c.in-Err-Refused.field-0-is (refused_is _ _ _ c.in-Err-Refused.field-0-is (c.in-Err-Refused.ensures.within u))
 
 pub returns-in-Ok-finish-clause-ok : goal.returns-in-Ok-finish-clause-ok
 unfolding read_lines
 returns-in-Ok-finish-clause-ok c =
     let cut = cut_last _ _ _ c.in-None.is c.cut_line.ensures.cut in
     let back : c.lines.number + 1 - 1 ≡ c.lines.number = omega arith in
-    (reading_law c.args.schema.now c.args.text.now (dependency_of c.in-Ok-finish.dep)).0
+    (reading_law c.args.schema.now c.args.text.now (derivation_lines_of c.in-Ok-finish.lines.items)).0
     (rw (c.lines.invariant.same, cut.lines, c.in-Ok.ensures.ok, back) c.in-Ok-finish.ensures.ok)
-
-pub returns-in-Ok-finish-clause-implied : goal.returns-in-Ok-finish-clause-implied
-returns-in-Ok-finish-clause-implied c =
-    derived_is_implied c.args.schema.now c.args.text.now _ (returns-in-Ok-finish-clause-ok c)
-
-pub returns-in-Ok-finish-clause-dep : goal.returns-in-Ok-finish-clause-dep
-returns-in-Ok-finish-clause-dep c =
-    derived_within c.args.schema.now c.args.text.now _ (returns-in-Ok-finish-clause-ok c)
 
 pub returns-in-Err-clause-err : goal.returns-in-Err-clause-err
 unfolding read_lines
@@ -74,7 +59,7 @@ returns-in-Err-clause-err c =
     (rw (c.lines.invariant.same, cut.lines, c.in-Ok.ensures.ok, back) c.in-Err.ensures.err)
 
 pub returns-in-Err-clause-within : goal.returns-in-Err-clause-within
-returns-in-Err-clause-within c = c.in-Err.ensures.within (universe_of c.args.schema.now)
+returns-in-Err-clause-within c = c.in-Err.ensures.within
 
 pub overflow_add-number : goal.overflow_add-number
 overflow_add-number c = omega (arith, c.lines.invariant.room)
@@ -89,5 +74,4 @@ lines-preserved c =
     record {
       same = rw (c.lines.invariant.same, cut.lines, c.in-Ok.ensures.ok) refl;
       room = omega (arith, c.lines.invariant.room, cut.shorter);
-      within = c.in-Ok.ensures.before;
     }

@@ -29,15 +29,10 @@ unfolding Does
 returns-in-CheckProof-clause-response g c = λ r shows.
     subst (λ (task : Task). RespondsAs (Does (g.M.FolderMaker.may_be_free c.args.place.now) r c.args.schema.now (task_form task)) c.of_proof.result) (sym c.in-CheckProof.is) (c.of_proof.ensures.response r shows)
 
-pub returns-in-CheckSame-clause-response : goal.returns-in-CheckSame-clause-response
+pub returns-in-OfPair-clause-response : goal.returns-in-OfPair-clause-response
 unfolding Does
-returns-in-CheckSame-clause-response g c = λ r shows.
-    subst (λ (task : Task). RespondsAs (Does (g.M.FolderMaker.may_be_free c.args.place.now) r c.args.schema.now (task_form task)) c.of_schemas.result) (sym c.in-CheckSame.is) (c.of_schemas.ensures.response r shows)
-
-pub returns-in-CheckCover-clause-response : goal.returns-in-CheckCover-clause-response
-unfolding Does
-returns-in-CheckCover-clause-response g c = λ r shows.
-    subst (λ (task : Task). RespondsAs (Does (g.M.FolderMaker.may_be_free c.args.place.now) r c.args.schema.now (task_form task)) c.of_cover.result) (sym c.in-CheckCover.is) (c.of_cover.ensures.response r shows)
+returns-in-OfPair-clause-response g c = λ r shows.
+    subst (λ (task : Task). RespondsAs (Does (g.M.FolderMaker.may_be_free c.args.place.now) r c.args.schema.now (task_form task)) c.of_schemas.result) (sym c.in-OfPair.is) (c.of_schemas.ensures.response r shows)
 
 pub returns-in-OfSchema-clause-reads : goal.returns-in-OfSchema-clause-reads
 returns-in-OfSchema-clause-reads g c = front_none (files_of_task (task_form c.args.task)) (g.F.FileSource.begun c.args.source.now)
@@ -58,9 +53,9 @@ pub returns-in-CheckProof-clause-reads : goal.returns-in-CheckProof-clause-reads
 returns-in-CheckProof-clause-reads g c =
     subst (λ (task : Task). BeginsFront (files_of_task (task_form task)) (g.F.FileSource.begun c.args.source.now) (g.F.FileSource.begun c.of_proof.new.source)) (sym c.in-CheckProof.is) c.of_proof.ensures.reads
 
-pub returns-in-CheckSame-clause-reads : goal.returns-in-CheckSame-clause-reads
-returns-in-CheckSame-clause-reads g c =
-    subst (λ (task : Task). BeginsFront (files_of_task (task_form task)) (g.F.FileSource.begun c.args.source.now) (g.F.FileSource.begun c.of_schemas.new.source)) (sym c.in-CheckSame.is) c.of_schemas.ensures.reads
+pub returns-in-OfPair-clause-reads : goal.returns-in-OfPair-clause-reads
+returns-in-OfPair-clause-reads g c =
+    subst (λ (task : Task). BeginsFront (files_of_task (task_form task)) (g.F.FileSource.begun c.args.source.now) (g.F.FileSource.begun c.of_schemas.new.source)) (sym c.in-OfPair.is) c.of_schemas.ensures.reads
 
 pub returns-in-Rejoin-clause-reads : goal.returns-in-Rejoin-clause-reads
 returns-in-Rejoin-clause-reads g c =

@@ -7,6 +7,7 @@ use Rattle.desk_cli.specs.Performs.{Performs}
 use Rattle.desk_inputs.specs.FilesBegun.{BeginsFront}
 use Rattle.desk_inputs.proofs.BegunLemmas.{front_none}
 use Rattle.desk_responses.specs.Responses.{RespondsAs}
+use Rattle.desk_cli.proofs.SampleLemmas.{few_sampled}
 use Rattle.desk_cli.proofs.top.perform.Goals as goal
 
 pub returns-in-OverSchema-clause-response : goal.returns-in-OverSchema-clause-response
@@ -49,6 +50,13 @@ returns-in-ImportSql-clause-reads g c =
 
 pub returns-in-Sample-clause-reads : goal.returns-in-Sample-clause-reads
 returns-in-Sample-clause-reads g c = front_none (files_of_command (command_form c.args.command)) (g.F.FileSource.begun c.args.source.now)
+
+pub returns-in-Sample-clause-response : goal.returns-in-Sample-clause-response
+unfolding Performs
+returns-in-Sample-clause-response g c = λ r shows.
+    let persons = c.in-Sample.persons in
+    subst (λ (command : Command). RespondsAs (Performs (g.M.FolderMaker.may_be_free c.args.place.now) r (command_form command)) c.migrate_sample.result) (sym c.in-Sample.is)
+    (few_sampled persons.number c.migrate_sample.result persons.within_limit c.migrate_sample.ensures.response)
 
 pub returns-in-Help-clause-reads : goal.returns-in-Help-clause-reads
 returns-in-Help-clause-reads g c = front_none (files_of_command (command_form c.args.command)) (g.F.FileSource.begun c.args.source.now)

@@ -1,22 +1,21 @@
--- What is left to prove of `explained_cover`: its clause.
+-- What is left to prove of `explained_cover`: what `print_cover_reasons` and `print_deps` require, and its clause.
 use Rattle.std.proofs.Common.{◌≡◌, List, ℕ, ◌++◌, refl, sym, subst, ap, ◌∙◌, inl}
-use Rattle.cover_accounts.specs.declared.shortening.ShortMember.{ShortMember}
-use Rattle.cover_accounts.specs.declared.thinning.PlacedDep.{PlacedDep}
-use Rattle.cover_accounts.specs.Steps.{places_of, shortened_list}
 use Rattle.dep_model.specs.declared.dep.Dep.{Dep}
 use Rattle.dep_model.specs.Deps.{dependencies_of}
 use Rattle.schema_printer.specs.Printing.{schema_text}
 use Rattle.desk_responses.specs.ResponseValues.{text_only}
 use Rattle.desk_responses.specs.declared.status.Status.TheVariants.{Yes}
-use Rattle.desk_covers.specs.CoverReasons.{all_gone_text, members_text}
 use Rattle.std.specs.Prelude.{All}
 use Rattle.dep_model.specs.Deps.{IsDepWithin}
 use Rattle.schema_model.specs.Schemas.{universe_of}
 use Rattle.desk_covers.proofs.cover_reasons.explained_cover.Goals as goal
 
+pub print_cover_reasons-requires : goal.print_cover_reasons-requires
+print_cover_reasons-requires c = record { steps = rw (c.theory.ensures.theory) at c.in_ok-steps.ensures.steps }
+
 pub print_deps-requires : goal.print_deps-requires
 print_deps-requires c =
-    subst (λ (ds : List Dep). All (IsDepWithin (universe_of c.args.schema.now)) ds) (sym c.deref-3.ensures.value)
+    subst (λ (ds : List Dep). All (IsDepWithin (universe_of c.args.schema.now)) ds) (sym c.deref.ensures.value)
     (rw (c.theory.ensures.theory) at c.in_ok-steps.ensures.within)
 
 pub returns : goal.returns
@@ -26,10 +25,6 @@ returns c =
     let whole = steps.whole.items in
     let reasons = c.in_ok-text.text.items in
     let plain = schema_text s (dependencies_of whole) in
-    let reads : reasons ≡ members_text s (shortened_list steps.members.items) ++ all_gone_text s (places_of steps.gone.items) =
-    c.in_ok-text.ensures.text
-    ∙ ap (λ (ms : List ShortMember). members_text s (shortened_list ms) ++ all_gone_text s (places_of c.deref-2.result.now)) c.deref.ensures.value
-    ∙ ap (λ (ps : List PlacedDep). members_text s (shortened_list steps.members.items) ++ all_gone_text s (places_of ps)) c.deref-2.ensures.value in
     record {
       response = (
         text_only Yes plain,
@@ -38,17 +33,12 @@ returns c =
           refl,
           (
             reasons,
-            record {
-              members = shortened_list steps.members.items;
-              gone = places_of steps.gone.items;
-              steps = (rw (c.theory.ensures.theory) at c.in_ok-steps.ensures.steps);
-              reads = reads;
-            },
+            c.in_ok-text.ensures.reasons,
             c.with_text.ensures.says
                 ∙ ap (text_only Yes) (c.in_ok-add.ensures.added
-                ∙ ap (λ (t : List ℕ). reasons ++ t) c.deref-4.ensures.value
+                ∙ ap (λ (t : List ℕ). reasons ++ t) c.deref-2.ensures.value
                 ∙ ap (λ (t : List ℕ). reasons ++ t) c.in_ok-plain.ensures.text
-                ∙ ap (λ (ds : List Dep). reasons ++ schema_text s (dependencies_of ds)) c.deref-3.ensures.value),
+                ∙ ap (λ (ds : List Dep). reasons ++ schema_text s (dependencies_of ds)) c.deref.ensures.value),
           ),
         ),
       );

@@ -1,12 +1,13 @@
--- What is left to prove of `open_derivation`: its clauses `ok` and `exit` and what
+-- What is left to prove of `open_derivation`: its clauses `ok`, `derivation` and `exit` and what
 -- `derivation_refusal_exit` requires, by `refusal_stops`.
 use Rattle.std.proofs.Common.{ℕ, List, subst}
 use Rattle.dep_model.proofs.FailureLemmas.{refused_is}
-use Rattle.dep_model.specs.Deps.{dependency_of}
+use Rattle.schema_model.specs.Schemas.{universe_of}
 use Rattle.schema_printer.specs.Spelling.{printed_names_of}
 use Rattle.proof_grammar.specs.Diagnostics.{line_diagnostic_of}
-use Rattle.derivation_grammar.specs.Derivations.{Derives}
+use Rattle.derivation_grammar.specs.Meanings.{MeansDerivation}
 use Rattle.derivation_grammar.specs.Refusals.{RefusesDerivation}
+use Rattle.derivation_text.specs.Views.{derivation_lines_of}
 use Rattle.desk_responses.specs.ResponseValues.{Says}
 use Rattle.desk_responses.specs.declared.status.Status.TheVariants.{Refused}
 use Rattle.desk_refusals.specs.ProofTexts.{derivation_refusal_text}
@@ -19,12 +20,15 @@ pub returns-in-Ok-read_derivation-clause-ok : goal.returns-in-Ok-read_derivation
 returns-in-Ok-read_derivation-clause-ok g c = λ r same. record {
   bytes = c.in-Ok.bytes.items;
   content = c.in-Ok.ensures.ok r same;
-  means = subst (λ (bytes : List ℕ). Derives c.args.schema.now bytes (dependency_of c.in-Ok-read_derivation.dep)) c.deref.ensures.value c.in-Ok-read_derivation.ensures.ok;
+  means = subst (λ (bytes : List ℕ). MeansDerivation c.args.schema.now bytes (derivation_lines_of c.in-Ok-read_derivation.lines.items)) c.deref.ensures.value c.in-Ok-read_derivation.ensures.ok;
 }
+
+pub returns-in-Ok-read_derivation-clause-derivation : goal.returns-in-Ok-read_derivation-clause-derivation
+returns-in-Ok-read_derivation-clause-derivation g c = (_, c.in-Ok-read_derivation.ensures.ok)
 
 pub derivation_refusal_exit-requires : goal.derivation_refusal_exit-requires
 derivation_refusal_exit-requires g c = record {
-  within = refused_is _ _ _ c.in-Err-Refused.field-0-is c.in-Err-Refused.ensures.within;
+  within = refused_is _ _ _ c.in-Err-Refused.field-0-is (c.in-Err-Refused.ensures.within (universe_of c.args.schema.now));
 }
 
 pub returns-in-Err-Refused-clause-exit : goal.returns-in-Err-Refused-clause-exit

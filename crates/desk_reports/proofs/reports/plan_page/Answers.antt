@@ -1,27 +1,24 @@
 -- What is left to prove of `plan_page`: its clause, section by section.
-use Rattle.std.proofs.Common.{ℕ, List, ◌++◌, ap, ◌∙◌}
-use Rattle.html_pages.specs.Pages.{page_text}
+use Rattle.std.proofs.Common.{ℕ, List, ◌++◌, codes, ap, ◌∙◌, append_assoc}
+use Rattle.html_pages.specs.Pages.{front_text}
 use Rattle.desk_responses.specs.ResponseValues.{text_only}
 use Rattle.desk_responses.specs.declared.status.Status.TheVariants.{Yes}
+use Rattle.desk_reports.proofs.PieceLemmas.{adds_both}
 use Rattle.desk_reports.proofs.reports.plan_page.Goals as goal
 
 pub returns : goal.returns
-returns c = record {
-  response = (
-    c.in_ok-sections.sections.items,
-    (
-      c.in_ok-front.front.items,
-      c.in_ok-back.back.items,
-      c.in_ok-front.ensures.sections,
-      (
-        c.in_ok-tables.tables.items,
-        c.in_ok-example.example.items,
-        c.in_ok-tables.ensures.section,
-        c.in_ok-example.ensures.section,
-        c.in_ok-back.ensures.text ∙ ap (λ (t : List ℕ). c.in_ok-tables.tables.items ++ t) c.deref.ensures.value,
-      ),
-      c.in_ok-sections.ensures.text ∙ ap (λ (t : List ℕ). c.in_ok-front.front.items ++ t) c.deref-2.ensures.value,
-    ),
-    c.in_ok-response.ensures.says ∙ ap (λ (t : List ℕ). text_only Yes (page_text c.args.file.now t)) c.deref-3.ensures.value,
-  );
-}
+returns c =
+    let adds = adds_both _ _ _ _ _ c.in_ok-put_front_sections.ensures.added
+    (adds_both _ _ _ _ _ c.in_ok-put_plan_section.ensures.added c.in_ok-put_example_section.ensures.added) in
+    let front = front_text c.args.file.now in
+    let end = codes "</body></html>\n" in
+    record {
+      response = (
+        adds.piece,
+        adds.is,
+        c.with_text.ensures.says
+            ∙ ap (text_only Yes) (c.in_ok-close_page.ensures.added
+            ∙ ap (λ (t : List ℕ). t ++ end) (adds.added ∙ ap (λ (t : List ℕ). t ++ adds.piece) c.in_ok-text.ensures.text)
+            ∙ append_assoc front adds.piece end),
+      );
+    }

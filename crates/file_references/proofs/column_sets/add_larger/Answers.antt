@@ -1,8 +1,7 @@
 -- What is left to prove of `add_larger`: that the invariant of its loop holds at first and stays, by `SetLemmas`.
-use Rattle.std.proofs.Common.{true≢false, ◌≡◌, ◌+◌, ap, sym, subst, ◌∙◌, List, ℕ, arith}
-use Rattle.attr_sets.specs.Attributes.{Attributes, IsSubset}
+use Rattle.std.proofs.Common.{true≢false, ◌+◌, ap, sym, subst, ◌∙◌, ℕ, arith}
+use Rattle.attr_sets.specs.Attributes.{IsSubset}
 use Rattle.attr_sets.specs.Sets.{attributes}
-use Rattle.attr_sets.specs.declared.set.AttrSet.{AttrSet}
 use Rattle.file_references.specs.Keys.{AddsLargerUpTo}
 use Rattle.file_references.proofs.SetLemmas.{no_larger, none_larger, one_larger}
 use Rattle.file_references.proofs.column_sets.add_larger.Goals as goal

@@ -1,5 +1,5 @@
 -- What is left to prove of `has_within`: that a round of its loop keeps the invariant, and what it answers at the end.
-use Rattle.std.proofs.Common.{true≢false, sym, subst, ◌∙◌, List, arith}
+use Rattle.std.proofs.Common.{true≢false, sym, subst, ◌∙◌}
 use Rattle.std.specs.Prelude.{All}
 use Rattle.std.proofs.lemmas.List.{take_all}
 use Rattle.std.proofs.lemmas.List.Elements.{All-contains, All-more}

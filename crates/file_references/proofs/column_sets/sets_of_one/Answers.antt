@@ -1,15 +1,13 @@
 -- What is left to prove of `sets_of_one`: that a round of its loop keeps the invariant, and what it answers, by
 -- `SetLemmas`.
-use Rattle.std.proofs.Common.{true≢false, inl, inr, ◌≡◌, ◌<◌, ap, sym, subst, refl, ◌∙◌, ◌++◌, ◌∷◌, [], List, ℕ, true, arith}
+use Rattle.std.proofs.Common.{◌≡◌, ap, sym, subst, ◌∙◌, arith}
 use Rattle.std.specs.Prelude.{All, Any}
-use Rattle.std.proofs.lemmas.Bool.{cases_lt}
-use Rattle.std.proofs.lemmas.List.Elements.{All-push, Contains-push}
+use Rattle.std.proofs.lemmas.List.Elements.{All-push}
 use Rattle.attr_sets.specs.Attributes.{IsSubset, count_below, only}
 use Rattle.attr_sets.specs.Sets.{attributes}
 use Rattle.attr_sets.specs.declared.set.AttrSet.{AttrSet}
 use Rattle.attr_sets.specs.declared.set.TheConstants.{MOST_ATTRIBUTES}
 use Rattle.attr_sets.proofs.AttributesLemmas.{attributes_below}
-use Rattle.dep_model.proofs.ListLemmas.{Any-from, Any-left}
 use Rattle.file_references.proofs.SetLemmas.{all_of_one, each_of_one, one_more_of_one, no_more_of_one}
 use Rattle.file_references.proofs.column_sets.sets_of_one.Goals as goal
 use Rattle.file_references.proofs.column_sets.sets_of_one.Goals.{then-contains+in_ok-push, else-contains}

@@ -1,6 +1,6 @@
 -- What is left to prove of `sets_of_one_more`: that the invariant of its loop holds at first and stays, and what it
 -- answers, by `SetLemmas`.
-use Rattle.std.proofs.Common.{subst, List, ◌∙◌}
+use Rattle.std.proofs.Common.{subst, List}
 use Rattle.std.proofs.lemmas.List.{take_all}
 use Rattle.attr_sets.specs.Sets.{attributes}
 use Rattle.attr_sets.specs.declared.set.AttrSet.{AttrSet}

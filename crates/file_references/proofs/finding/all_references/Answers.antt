@@ -6,7 +6,7 @@ use Rattle.std.proofs.lemmas.List.{length-map}
 use Rattle.std.proofs.lemmas.List.Filters.{dedup_is}
 use Rattle.file_references.specs.Finds.{IsTo, IsToFirst, reference_of}
 use Rattle.file_references.specs.References.{Reference}
-use Rattle.file_references.proofs.AddLemmas.{adds_fewer, adds_then}
+use Rattle.file_references.proofs.AddLemmas.{adds_fewer, adds_then, still_references}
 use Rattle.file_references.proofs.OrderLemmas.{all_found, equal}
 use Rattle.headed_rows.specs.Headings.{headed_of}
 use Rattle.file_references.proofs.finding.all_references.Goals as goal
@@ -21,7 +21,9 @@ loop-target-preserved c = record {
       (λ ref is low. elim (cases_lt ref.target target) [
         | inl less ↦ inl less
         | inr other ↦ inr (omega (arith, low, other))
-      ]) c.loop-target.invariant.adds c.in_ok-add_references_to.ensures.added;
+      ]) c.loop-target.invariant.adds
+      (c.in_ok-add_references_to.ensures.added (still_references files (IsToFirst target) [] (map reference_of c.loop-target.found.items)
+      (λ ref has. absurd (omega (arith, has.1))) c.loop-target.invariant.adds));
 }
 
 pub returns : goal.returns

@@ -1,5 +1,5 @@
 -- What is left to prove of `add_row`: what it answers, and that the first row of values is one, by `KeyLemmas`.
-use Rattle.std.proofs.Common.{◌≡◌, ◌<◌, ◌+◌, ℕ, List, Bor, length, ap, sym, subst, ◌∙◌, arith}
+use Rattle.std.proofs.Common.{◌≡◌, ◌+◌, ℕ, List, Bor, length, ap, sym, subst, ◌∙◌, arith}
 use Rattle.std.specs.List.{list_all}
 use Rattle.dep_model.specs.Tuples.{Relation}
 use Rattle.dep_model.proofs.ListLemmas.{same_default}
@@ -8,7 +8,7 @@ use Rattle.table_join.specs.Lent.{lent_values, tuples_of}
 use Rattle.table_join.proofs.MatchLemmas.{lent_gets}
 use Rattle.file_references.specs.Columns.{is_there}
 use Rattle.file_references.specs.Keys.{HoldsKeySoFar, IsWholeKey}
-use Rattle.file_references.proofs.KeyLemmas.{again, gets_new, gets_old, low_first, misses_one, not_apart}
+use Rattle.file_references.proofs.KeyLemmas.{again, gets_new, gets_old, low_first, not_apart}
 use Rattle.file_references.proofs.KnowsLemmas.{by_test}
 use Rattle.file_references.proofs.ValueLemmas.{whole_as_read}
 use Rattle.file_references.proofs.identifying.add_row.Goals as goal

@@ -1,6 +1,6 @@
 -- What is left to prove of `rows_without_match`: that the invariant of its loop holds at first and stays, and its clauses
 -- `none` and `some`, by `UnmatchedLemmas`.
-use Rattle.std.proofs.Common.{◌≡◌, ◌+◌, ◌↔◌, List, ℕ, Bor, Bool, true, false, length, ap, sym, subst, refl, ◌∙◌, arith}
+use Rattle.std.proofs.Common.{◌≡◌, List, ℕ, Bor, true, false, length, ap, sym, subst, refl, ◌∙◌, arith}
 use Rattle.std.specs.List.{list_all}
 use Rattle.std.specs.Prelude.{Contains}
 use Rattle.row_store.specs.Rows.{row_at}

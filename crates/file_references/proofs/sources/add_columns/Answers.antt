@@ -5,8 +5,7 @@ use Rattle.std.proofs.lemmas.List.{length-map}
 use Rattle.dep_model.proofs.ListLemmas.{same_default}
 use Rattle.file_references.specs.Columns.{file_at}
 use Rattle.file_references.specs.Finds.{Adds, RefersFromColumns, reference_of}
-use Rattle.file_references.specs.References.{Reference}
-use Rattle.file_references.proofs.AddLemmas.{counted, file_at_or}
+use Rattle.file_references.proofs.AddLemmas.{counted, file_at_or, still_references}
 use Rattle.file_references.proofs.SourceLemmas.{columns_all, columns_more, columns_same, one_candidate}
 use Rattle.headed_rows.specs.Headings.{HeadedRows, headed_of}
 use Rattle.file_references.proofs.sources.add_columns.Goals as goal
@@ -14,7 +13,7 @@ use Rattle.file_references.proofs.sources.add_columns.Goals.{then-file-target+in
 
 pub loop-column-preserved : goal.loop-column-preserved
 loop-column-preserved c = record {
-  adds = λ of.
+  adds = λ are of.
       let files = map headed_of c.args.files.now in
       let file = c.args.file in
       let target = c.args.target.now in
@@ -37,22 +36,22 @@ loop-column-preserved c = record {
             ] in
             subst (Adds files (RefersFromColumns target file (column + 1)) old) (sym (ap (λ v. map reference_of v.items) w.found-is))
             (columns_more files file column w.push.new.self.items target old now (map reference_of w.add_source.new.found.items) is
-            (c.loop-column.invariant.adds of)
-            (w.in_ok-add_source.ensures.added of (one_candidate files file column w.push.new.self.items target of inside low c.requires.one other is)))
+            (c.loop-column.invariant.adds are of)
+            (w.in_ok-add_source.ensures.added (still_references files (RefersFromColumns target file column) old now are (c.loop-column.invariant.adds are of)) of (one_candidate files file column w.push.new.self.items target of inside low c.requires.one other is)))
         | else-file-target+else-column-index w ↦
             let read = same_default key 0 w.index.result.now 0 (omega (arith, c.requires.one)) in
             subst (Adds files (RefersFromColumns target file (column + 1)) old) (sym (ap (λ v. map reference_of v.items) w.found-is))
             (columns_same files file column target old now c.requires.one (omega (arith, w.if-file-target.false))
-            (omega (arith, read, w.index.ensures, w.if-column-index.false)) (c.loop-column.invariant.adds of))
+            (omega (arith, read, w.index.ensures, w.if-column-index.false)) (c.loop-column.invariant.adds are of))
       ];
 }
 
 pub returns : goal.returns
 returns c = record {
-  added = λ of.
+  added = λ are of.
       let files = map headed_of c.args.files.now in
       let width = ap (λ (h : HeadedRows). length h.names) (file_at_or c.args.files.now c.args.file c.index-files-file.result c.requires.file) in
       let count = counted c.args.files.now c.args.file c.index-files-file.result in
       columns_all files c.args.file c.loop-column.column c.args.target.now (map reference_of c.args.found.now.items) (map reference_of c.loop-column.found.items) c.requires.one
-      (omega (arith, c.loop-column-test.false, c.loop-column.auto.column-end, c.len-column-end.ensures, count, width)) (c.loop-column.invariant.adds of);
+      (omega (arith, c.loop-column-test.false, c.loop-column.auto.column-end, c.len-column-end.ensures, count, width)) (c.loop-column.invariant.adds are of);
 }

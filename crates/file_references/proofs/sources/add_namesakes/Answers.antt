@@ -22,7 +22,7 @@ add_source-requires-clause-columns c =
 
 pub returns-in-None : goal.returns-in-None
 returns-in-None c = record {
-  added = λ of.
+  added = λ are of.
       let files = map headed_of c.args.files.now in
       let target = c.args.target.now in
       let names = c.deref.ensures.value ∙ sym (ap (λ (h : HeadedRows). h.names) (file_at_or c.args.files.now c.args.file c.index-files-file.result c.requires.file)) in
@@ -34,7 +34,7 @@ returns-in-None c = record {
 
 pub returns-in-Some : goal.returns-in-Some
 returns-in-Some c = record {
-  added = λ of.
+  added = λ are of.
       let files = map headed_of c.args.files.now in
       let target = c.args.target.now in
       let columns = c.in-Some.columns.items in
@@ -44,6 +44,6 @@ returns-in-Some c = record {
       (MatchOption-at_some _ _ c.in-Some.columns c.in-Some.is c.in_ok-namesakes.ensures.named) in
       on_ok_weaker c.add_source.result
       (names_these files c.args.file columns target (map reference_of c.args.found.now.items) (map reference_of c.add_source.new.found.items) c.requires.several named)
-      (c.add_source.ensures.added of (names_candidate files c.args.file columns target of (omega (arith, c.requires.file, length-map c.args.files.now headed_of))
+      (c.add_source.ensures.added are of (names_candidate files c.args.file columns target of (omega (arith, c.requires.file, length-map c.args.files.now headed_of))
       (λ same. omega (arith, same, c.if-file-target.false)) c.requires.several named));
 }

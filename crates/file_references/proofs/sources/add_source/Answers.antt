@@ -1,33 +1,38 @@
 -- What is left to prove of `add_source`: its clause `added`, where the reference holds and where it does not.
-use Rattle.std.proofs.Common.{true≢false, ◌≡◌, List, map, refl, ap, sym, subst, ◌∙◌}
-use Rattle.dep_model.specs.Tuples.{Relation}
-use Rattle.file_references.specs.Finds.{Adds, IsThis, reference_of, refers_from}
-use Rattle.file_references.specs.References.{Reference}
-use Rattle.file_references.proofs.AddLemmas.{adds_no_one, adds_one, file_at_or, pushed_reference}
-use Rattle.file_references.proofs.SourceLemmas.{all_moved, is_reference, reference_is}
-use Rattle.headed_rows.specs.Headings.{HeadedRows, headed_of}
-use Rattle.table_join.specs.Lent.{tuples_of}
+use Rattle.std.proofs.Common.{true≢false, List, ℕ, map, refl, sym, subst, ◌∙◌}
+use Rattle.file_references.specs.Finds.{Adds, AreReferences, IsThis, reference_of, refers_from}
+use Rattle.file_references.specs.References.{IsCandidate, IsReference}
+use Rattle.file_references.specs.declared.reference.FoundReference.{FoundReference}
+use Rattle.file_references.proofs.AddLemmas.{adds_no_one, adds_one, pushed_reference}
+use Rattle.headed_rows.specs.Headings.{headed_of}
 use Rattle.file_references.proofs.sources.add_source.Goals as goal
 
 pub returns-in_ok-push : goal.returns-in_ok-push
 returns-in_ok-push c = record {
-  added = λ of candidate.
+  added = λ are of candidate.
       let files = map headed_of c.args.files.now in
-      let ref = refers_from c.args.file c.args.columns.items c.args.target.now in
-      let rows = ap (λ (h : HeadedRows). h.rows) (file_at_or c.args.files.now c.args.file c.index-files-file.result c.requires.file) in
-      let all = all_moved _ _ _ _ (tuples_of c.args.target.now.values.keys) (sym rows) c.deref.ensures.value (c.in_ok-all_are.ensures.all.0 c.if-branch.true) in
+      let file = c.args.file in
+      let target = c.args.target.now in
+      let ref = refers_from file c.args.columns.items target in
+      let known = subst (λ (found : List FoundReference). AreReferences files (map reference_of found)) (sym c.deref-2.ensures.value) are in
+      let read = subst (λ (columns : List ℕ). IsCandidate files (refers_from file columns target)) (sym c.deref.ensures.value) candidate in
+      let is = subst (λ (columns : List ℕ). IsReference files (refers_from file columns target)) c.deref.ensures.value
+      ((c.in_ok-refers.ensures.refers known of read).0 c.if-branch.true) in
       subst (Adds files (IsThis ref) (map reference_of c.args.found.now.items))
-      (sym (pushed_reference c.args.found.now.items c.push.new.self.items _ c.args.file c.args.columns.items c.args.target.now c.in_ok-push.ensures.items
+      (sym (pushed_reference c.args.found.now.items c.push.new.self.items _ file c.args.columns.items target c.in_ok-push.ensures.items
       refl refl refl (c.in_ok-from_slice.ensures.items ∙ c.deref-then-branch.ensures.value)))
-      (adds_one files ref (map reference_of c.args.found.now.items) (is_reference files c.args.file c.args.columns.items c.args.target.now of candidate all));
+      (adds_one files ref (map reference_of c.args.found.now.items) is);
 }
 
 pub returns-else-branch : goal.returns-else-branch
 returns-else-branch c = record {
-  added = λ of candidate.
+  added = λ are of candidate.
       let files = map headed_of c.args.files.now in
-      let rows = ap (λ (h : HeadedRows). h.rows) (file_at_or c.args.files.now c.args.file c.index-files-file.result c.requires.file) in
-      adds_no_one files (refers_from c.args.file c.args.columns.items c.args.target.now) (map reference_of c.args.found.now.items)
-      (λ is. true≢false (sym (c.in_ok-all_are.ensures.all.1 (all_moved _ _ _ _ (tuples_of c.args.target.now.values.keys) rows (sym c.deref.ensures.value)
-      (reference_is files c.args.file c.args.columns.items c.args.target.now of is))) ∙ c.if-branch.false));
+      let file = c.args.file in
+      let target = c.args.target.now in
+      let known = subst (λ (found : List FoundReference). AreReferences files (map reference_of found)) (sym c.deref-2.ensures.value) are in
+      let read = subst (λ (columns : List ℕ). IsCandidate files (refers_from file columns target)) (sym c.deref.ensures.value) candidate in
+      adds_no_one files (refers_from file c.args.columns.items target) (map reference_of c.args.found.now.items)
+      (λ is. true≢false (sym ((c.in_ok-refers.ensures.refers known of read).1
+      (subst (λ (columns : List ℕ). IsReference files (refers_from file columns target)) (sym c.deref.ensures.value) is)) ∙ c.if-branch.false));
 }

@@ -9,14 +9,13 @@ use Rattle.attr_sets.specs.Sets.{attributes}
 use Rattle.attr_sets.specs.declared.set.AttrSet.{AttrSet}
 use Rattle.attr_sets.specs.declared.set.TheConstants.{MOST_ATTRIBUTES}
 use Rattle.dep_model.specs.Projections.{members_below}
-use Rattle.dep_model.specs.Tuples.{IsOver, Relation}
+use Rattle.dep_model.specs.Tuples.{IsOver}
 use Rattle.dep_model.proofs.ListLemmas.{same_default}
 use Rattle.file_references.specs.Columns.{file_at}
-use Rattle.file_references.specs.Finds.{Adds, KnowsTargets, RefersTo, reference_of}
+use Rattle.file_references.specs.Finds.{KnowsTargets, RefersTo, RefersToOne, reference_of}
 use Rattle.file_references.specs.References.{Reference}
-use Rattle.file_references.specs.Keys.{HoldsKey, IsWholeKey}
 use Rattle.file_references.specs.declared.targets.Target.{Target}
-use Rattle.file_references.proofs.AddLemmas.{adds_fewer, counted, file_at_or}
+use Rattle.file_references.proofs.AddLemmas.{adds_fewer, counted, file_at_or, still_references}
 use Rattle.file_references.proofs.KnowsLemmas.{is_new_key, is_target_of, knows_new, knows_same, moved_hold, moved_key, refers_to_set}
 use Rattle.file_references.proofs.SetLemmas.{members_low}
 use Rattle.file_references.proofs.ValueLemmas.{within_rows}
@@ -27,7 +26,7 @@ use Rattle.file_references.proofs.targets.add_target.Goals as goal
 
 pub returns-then-has_within : goal.returns-then-has_within
 returns-then-has_within c = record {
-  knows = λ shared size sets first few looked start.
+  knows = λ shared size sets first few looked are start.
       knows_same (map headed_of c.args.files.now) c.args.target shared size sets first c.args.keys.now.items (map reference_of c.args.found.now.items) c.args.set start
       (λ key. subst (λ (ks : List AttrSet). Any (λ (k : AttrSet). IsSubset (attributes k) (attributes c.args.set)) ks) c.deref.ensures.value
       (c.has_within.ensures.has.0 c.if-has_within.true));
@@ -58,7 +57,7 @@ add_sources-requires-clause-target c =
 
 pub returns-in-None : goal.returns-in-None
 returns-in-None c = record {
-  knows = λ shared size sets first few looked start.
+  knows = λ shared size sets first few looked are start.
       let files = map headed_of c.args.files.now in
       let here = file_at_or c.args.files.now c.args.target c.index-files-target.result c.requires.target in
       let again = file_at_or c.args.files.now c.args.target c.index-files-target-2.result c.requires.target in
@@ -71,7 +70,7 @@ returns-in-None c = record {
 
 pub returns-in_ok-push-in-Some : goal.returns-in_ok-push-in-Some
 returns-in_ok-push-in-Some c = record {
-  knows = λ shared size sets first few looked start.
+  knows = λ shared size sets first few looked are start.
       let files = map headed_of c.args.files.now in
       let target = c.args.target in
       let x = attributes c.args.set in
@@ -98,5 +97,5 @@ returns-in_ok-push-in-Some c = record {
       (sym c.in_ok-push-in-Some.ensures.items)
       (knows_new files target shared size sets first c.args.keys.now.items found c.args.set start key (map reference_of c.add_sources.new.found.items)
       (adds_fewer files (RefersTo t) (λ (ref : Reference). (ref.target ≡ target) × (ref.key ≡ members_below n x)) found (map reference_of c.add_sources.new.found.items) (λ ref is to. refers_to_set t n target x refl columns ref to) adds)))
-      (c.add_sources.ensures.added of);
+      (c.add_sources.ensures.added (still_references files (RefersToOne n target c.args.keys.now.items) first found are start.added) of);
 }

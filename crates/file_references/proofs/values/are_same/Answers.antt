@@ -1,5 +1,5 @@
 -- What is left to prove of `are_same`: what it answers where all values are equal.
-use Rattle.std.proofs.Common.{refl, sym, ◌∙◌, length, arith}
+use Rattle.std.proofs.Common.{refl, length, arith}
 use Rattle.row_store.specs.Rows.{row_at}
 use Rattle.dep_model.proofs.TupleLemmas.{same_tuple-Contains}
 use Rattle.file_references.proofs.values.are_same.Goals as goal

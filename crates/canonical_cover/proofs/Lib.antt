@@ -1,0 +1,5 @@
+pub mod MergeLemmas
+pub mod MembershipLemmas
+pub mod WholeLemmas
+pub mod CanonicalLemmas
+mod LoopLemmas

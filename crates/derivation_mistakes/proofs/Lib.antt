@@ -1,0 +1,6 @@
+pub mod JudgingLemmas
+pub mod MistakenLines
+pub mod MisuseLemmas
+pub mod OneMistake
+pub mod Outcomes
+pub mod ReasonLemmas

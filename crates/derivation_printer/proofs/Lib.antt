@@ -1,0 +1,2 @@
+pub mod PrintedDerivations
+pub mod WithinLines

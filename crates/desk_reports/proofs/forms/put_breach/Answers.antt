@@ -1,0 +1,6 @@
+-- What is left to prove of `put_breach`: its clause, piece by piece.
+use Rattle.desk_reports.proofs.PieceLemmas.{adds_both}
+use Rattle.desk_reports.proofs.forms.put_breach.Goals as goal
+
+pub returns : goal.returns
+returns c = record { added = adds_both _ _ _ _ _ c.in_ok-put_why.ensures.added c.in_ok-put_left_side.ensures.added }

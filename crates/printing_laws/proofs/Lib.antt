@@ -1,0 +1,4 @@
+mod PrintedGoals
+pub mod CodedLemmas
+mod NumberedMembers
+pub mod PrintedParts

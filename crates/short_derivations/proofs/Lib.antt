@@ -1,0 +1,6 @@
+pub mod ChainSteps
+pub mod ComposedLemmas
+pub mod EmittedLemmas
+pub mod LinkLemmas
+pub mod NeededLemmas
+pub mod PushedLines
