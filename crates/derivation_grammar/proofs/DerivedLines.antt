@@ -1,5 +1,5 @@
 -- A text derives what the last of its lines states, where each is derived.
-use Rattle.std.proofs.Common.{◌≡◌, ◌<◌, ◌≤◌, ◌+◌, ◌-◌, ◌==◌, ℕ, Bool, true, false, cond, List, [], ◌∷◌, ◌++◌, length, Option, Some, None, Result, Ok, Err, refl, sym, ◌∙◌, ap, subst, arith, length-append}
+use Rattle.std.proofs.Common.{◌≡◌, ◌<◌, ◌+◌, ◌-◌, ◌==◌, ℕ, Bool, true, false, cond, List, [], ◌∷◌, ◌++◌, length, Some, None, Result, Ok, refl, sym, ◌∙◌, ap, subst, arith, length-append}
 use Rattle.std.specs.Prelude.{◌↔◌, All, slice_get}
 use Rattle.std.proofs.lemmas.Bool.Decides.{nat_tests}
 use Rattle.std.proofs.lemmas.List.{length-map, map-append}
@@ -11,9 +11,9 @@ use Rattle.derivation.specs.declared.fault.FaultKind.{FaultKind}
 use Rattle.derivation.specs.Table.{step_conclusion, pair_conclusion}
 use Rattle.proof_grammar.specs.Lines.{by_given, by_reflexivity, by_mreflexivity, by_step, by_pair}
 use Rattle.derivation_rules.specs.FurtherTable.{further_conclusion, decomposition_conclusion}
-use Rattle.derivation_grammar.specs.Derivations.{stated_by, stated_at, over_one, over_two, outcome_of_rule, outcome_of_line, IsDerived, AreDerived, LastStates, Derives}
+use Rattle.derivation_grammar.specs.Derivations.{stated_by, stated_at, outcome_of_rule, outcome_of_line, AreDerived, LastStates, Derives}
 use Rattle.derivation_grammar.specs.Lines.{DerivationBody, by_rule, by_decomposition, by_further, DerivationLine}
-use Rattle.derivation_grammar.specs.Meanings.{premises_of, IsEarlier, IsInTurn, AreInTurn, MeansDerivation}
+use Rattle.derivation_grammar.specs.Meanings.{premises_of, IsEarlier, AreInTurn, MeansDerivation}
 use Rattle.derivation_grammar.proofs.OutcomeLemmas.{over_one_some, over_two_some}
 
 -- ---- what lines state
