@@ -1,7 +1,7 @@
 -- What is printed of a derivation, after the answer `yes`, derives what its last line states.
-use Rattle.std.proofs.Common.{◌≡◌, ◌<◌, ◌≤◌, ◌^◌, ℕ, ◌+◌, true, false, not, List, [], ◌∷◌, ◌++◌, length, refl, ap, sym, ◌∙◌, subst, arith, append_assoc, length-append, length-take, get_or, take}
-use Rattle.std.specs.Prelude.{Some, slice_get, All, codes, decimal, map, filter}
-use Rattle.std.specs.List.{flat_map, AllZip}
+use Rattle.std.proofs.Common.{◌≡◌, ◌<◌, ◌≤◌, ◌^◌, ℕ, ◌+◌, not, List, [], ◌∷◌, ◌++◌, length, refl, ap, sym, ◌∙◌, subst, arith, append_assoc, length-take, get_or, take}
+use Rattle.std.specs.Prelude.{slice_get, All, codes, decimal, map, filter}
+use Rattle.std.specs.List.{flat_map}
 use Rattle.std.proofs.lemmas.List.{append-nil, length-map}
 use Rattle.std.proofs.lemmas.Grind.{flat_map-append}
 use Rattle.std.proofs.lemmas.List.Elements.{All-head, All-tail}
@@ -28,10 +28,10 @@ use Rattle.schema_grammar.specs.Printed.{IsReadBack, AreReadBack}
 use Rattle.schema_grammar.proofs.PrintedTexts.{Bytes, EachBytes, lines_cut}
 use Rattle.schema_grammar.proofs.SpelledSides.{printed_side, printed_names}
 use Rattle.schema_grammar.proofs.SpelledWords.{nothing_left, side_marks, side_end, members_spelled}
-use Rattle.schema_printer.specs.Printing.{members_from, set_text, side_text, dependency_text, lines_text}
+use Rattle.schema_printer.specs.Printing.{members_from, set_text, dependency_text, lines_text}
 use Rattle.schema_printer.specs.Spelling.{spelling, printed_names_of}
 use Rattle.proof_grammar.specs.Lines as certificate
-use Rattle.proof_grammar.specs.Meanings.{certificate_lines, certificate_lines_of, without_yes}
+use Rattle.proof_grammar.specs.Meanings.{certificate_lines, certificate_lines_of}
 use Rattle.proof_grammar.specs.Printable.{DigitsFit, IsPrintableLine}
 use Rattle.proof_grammar.specs.Printing.{leaf_body, IsBodyWithin, certificate_line_text}
 use Rattle.proof_grammar.specs.Texts.{is_blank, is_yes}

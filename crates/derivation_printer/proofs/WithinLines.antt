@@ -1,13 +1,13 @@
 -- The lines of a derivation can be printed: their sets lie within the universe, and their numbers fit. And
 -- they are derived, by the grammar of derivations.
-use Rattle.std.proofs.Common.{◌≡◌, ◌<◌, ◌≤◌, ℕ, ◌+◌, ◌-◌, ◌==◌, ◌&&◌, true, false, List, [], ◌∷◌, ◌++◌, length, refl, ap, sym, ◌∙◌, subst, arith, get_or, length-append}
-use Rattle.std.specs.Prelude.{Some, Ok, slice_get, All, Result}
+use Rattle.std.proofs.Common.{◌≡◌, ◌<◌, ◌≤◌, ℕ, ◌+◌, ◌-◌, ◌==◌, ◌&&◌, false, List, [], ◌∷◌, ◌++◌, length, refl, ap, sym, ◌∙◌, subst, arith, get_or, length-append}
+use Rattle.std.specs.Prelude.{Some, Ok, slice_get, All}
 use Rattle.std.proofs.lemmas.Bool.Decides.{nat_tests}
 use Rattle.std.proofs.Math.ListN.{get_or-map}
 use Rattle.std.proofs.lemmas.List.{length-map}
 use Rattle.std.proofs.lemmas.Option.{slice_get_within, get_or_from_slice_get}
 use Rattle.std.proofs.lemmas.List.Elements.{All-push, All-nil, All-cons, All-contains}
-use Rattle.attr_sets.specs.Sets.{attributes, is_subset}
+use Rattle.attr_sets.specs.Sets.{is_subset}
 use Rattle.attr_sets.proofs.AttributesLemmas.{attributes_below}
 use Rattle.schema_model.specs.Schemas.{Schema, theory_in, universe_of}
 use Rattle.dep_model.specs.declared.dep.Dep.{Dep}
@@ -15,7 +15,6 @@ use Rattle.dep_model.specs.declared.dep.Dep.TheVariants.{Fd, Mvd}
 use Rattle.dep_model.specs.Dependencies.{Dependency, fd, mvd, right_of, IsWithin}
 use Rattle.dep_model.specs.Deps.{dependency_of}
 use Rattle.derivation.specs.declared.measures.TheConstants.{MOST_NODES}
-use Rattle.derivation.specs.declared.fault.FaultKind.{FaultKind}
 use Rattle.derivation.specs.declared.fault.FaultKind.TheVariants.{NotWithin}
 use Rattle.derivation.specs.declared.rule.LeafRule.{LeafRule}
 use Rattle.derivation.specs.declared.rule.LeafRule.TheVariants as leaves
@@ -23,21 +22,18 @@ use Rattle.derivation.specs.declared.rule.StepRule.{StepRule}
 use Rattle.derivation.specs.declared.rule.StepRule.TheVariants as steps
 use Rattle.derivation.specs.Derivs.{leaf_of, step_of}
 use Rattle.derivation.specs.Trees.{given, reflexivity, mreflexivity}
-use Rattle.derivation.specs.Table.{leaf_conclusion, step_conclusion, pair_conclusion}
 use Rattle.derivation.proofs.RuleTableLemmas.{cond-ok}
 use Rattle.derivation.proofs.WithinLemmas.{OfAttributes, LeafOfAttributes, StepOfAttributes, leaf_within, step_within, pair_within}
-use Rattle.derivation_rules.specs.FurtherTable.{further_conclusion, decomposition_conclusion}
 use Rattle.derivation_rules.proofs.WithinLemmas.{further_within, decomposition_within}
 use Rattle.proof_grammar.specs.Printing.{leaf_body, IsBodyWithin}
 use Rattle.proof_grammar.proofs.PrintedWithin as printed
-use Rattle.derivation_grammar.specs.Derivations.{stated_at, outcome_of_rule, outcome_of_line, IsDerived, AreDerived}
-use Rattle.derivation_grammar.specs.Lines.{DerivationLine}
+use Rattle.derivation_grammar.specs.Derivations.{stated_at, outcome_of_rule, outcome_of_line, AreDerived}
 use Rattle.short_derivations.specs.declared.inference.Inference.{Inference}
 use Rattle.short_derivations.specs.declared.inference.Reason.{Reason}
 use Rattle.short_derivations.specs.declared.inference.Reason.TheVariants as reasons
 use Rattle.short_derivations.specs.Inferences.{Why, by_leaf, by_step, by_pair, by_decomposition, by_further, Line, Gives, AreGiven}
 use Rattle.short_derivations.specs.Views.{why_of, line_of, lines_of}
-use Rattle.derivation_printer.specs.Printing.{body_of, numbered, numbered_after, IsDerivationBodyWithin, NumbersFit, IsLineWithin}
+use Rattle.derivation_printer.specs.Printing.{body_of, numbered_after, IsLineWithin}
 
 -- ---- within the universe
 leaf_own : (rule : LeafRule) → LeafOfAttributes (leaf_of rule)

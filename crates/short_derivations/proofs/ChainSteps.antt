@@ -1,9 +1,9 @@
 -- A chain begins with a link, goes on by links and ends at its goal.
-use Rattle.std.proofs.Common.{◌≡◌, ◌⊎◌, ℕ, ◌+◌, ◌*◌, ◌<◌, ◌≤◌, inl, inr, true, false, List, [], ◌∷◌, ◌++◌, length, refl, ap, sym, ◌∙◌, subst, arith, append-nil, length-append}
-use Rattle.std.specs.Prelude.{Some, Ok, slice_get, Contains, All}
+use Rattle.std.proofs.Common.{◌≡◌, ◌⊎◌, ℕ, ◌+◌, ◌*◌, ◌≤◌, inl, inr, true, List, [], ◌∷◌, ◌++◌, length, refl, ap, sym, ◌∙◌, subst, arith, append-nil, length-append}
+use Rattle.std.specs.Prelude.{Some, slice_get, Contains, All}
 use Rattle.std.proofs.lemmas.List.Elements.{All-push, All-nil, All-map}
 use Rattle.attr_sets.specs.Attributes.{Attributes, union, IsSubset}
-use Rattle.attr_sets.specs.Sets.{attributes, is_subset, is_same}
+use Rattle.attr_sets.specs.Sets.{attributes}
 use Rattle.attr_sets.proofs.AttributesLemmas.{same_from_within, is_subset-from, is_same-from, same_at, IsSubset-same}
 use Rattle.dep_model.specs.declared.dep.Dep.{Dep}
 use Rattle.dep_model.specs.Dependencies.{Dependency, fd, left_of, right_of, is_fd, functional_part}
@@ -14,7 +14,7 @@ use Rattle.fd_closure.proofs.ClosureLemmas.{functionally_closed_holds}
 use Rattle.derivation.proofs.ChainLemmas.{given_within}
 use Rattle.dep_model.specs.Theories.{Theory, width_of, theory_of, universe_of}
 use Rattle.derivation.specs.Trees.{given, augmentation, transitivity}
-use Rattle.short_derivations.specs.Inferences.{Line, by_leaf, by_step, by_pair, by_decomposition, stated_by, Gives, AreGiven, EachIsUsed, NoneIsRepeated, is_given, givens_of}
+use Rattle.short_derivations.specs.Inferences.{Line, by_leaf, by_step, by_pair, by_decomposition, stated_by, Gives, AreGiven, NoneIsRepeated, givens_of}
 use Rattle.short_derivations.specs.declared.links.Link.{Link}
 use Rattle.short_derivations.specs.Links.{dep_of_link, deps_of_links, said_by, IsLinkOf, LinksOut, beyond, given_line, IsChain, IsBegun, IsLinked}
 use Rattle.short_derivations.proofs.LinkLemmas.{beyond_one_less, beyond_all, said_one}

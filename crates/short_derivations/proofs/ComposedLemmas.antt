@@ -1,29 +1,26 @@
 -- Short derivations, of each kind.
-use Rattle.std.proofs.Common.{◌≡◌, ◌⊎◌, ℕ, ◌+◌, ◌*◌, ◌<◌, ◌≤◌, inl, inr, true, ◌&&◌, List, [], ◌∷◌, ◌++◌, length, refl, ap, sym, ◌∙◌, subst, arith}
+use Rattle.std.proofs.Common.{◌≡◌, ℕ, ◌≤◌, inl, inr, true, ◌&&◌, List, [], ◌∷◌, refl, ap, sym, subst, arith}
 use Rattle.std.specs.Prelude.{Some, Ok, slice_get, Contains, All}
 use Rattle.std.proofs.lemmas.List.Elements.{All-nil}
 use Rattle.attr_sets.specs.declared.set.TheConstants.{MOST_ATTRIBUTES}
 use Rattle.attr_sets.specs.Attributes.{Attributes, below, IsSubset}
-use Rattle.attr_sets.specs.Sets.{is_subset, is_same}
+use Rattle.attr_sets.specs.Sets.{is_subset}
 use Rattle.attr_sets.proofs.AttributesLemmas.{is_subset-from, is_subset-true, is_same-from}
-use Rattle.dep_model.specs.declared.dep.Dep.{Dep}
-use Rattle.dep_model.specs.Dependencies.{Dependency, fd, mvd, functional_part}
+use Rattle.dep_model.specs.Dependencies.{Dependency, fd, mvd}
 use Rattle.dep_model.specs.Deps.{IsDepWithin}
 use Rattle.dep_model.specs.Implication.{Implies}
 use Rattle.dep_model.specs.Theories.{Theory, width_of, theory_of, universe_of}
 use Rattle.dep_model.proofs.ListLemmas.{Contains-nil, Contains-cases}
-use Rattle.fd_closure.specs.FunctionallyClosed.{IsFunctionallyClosed}
 use Rattle.fd_closure.proofs.ClosureLemmas.{functionally_closed_holds}
 use Rattle.derivation.specs.Trees.{Tree, leaf, step, pair, given, reflexivity, mreflexivity, nodes}
 use Rattle.derivation.specs.Conclusions.{Proves}
 use Rattle.derivation.proofs.TreeLemmas.{nodes-pos}
 use Rattle.derivation.proofs.RuleTableLemmas.{some_of_ok, cond-ok}
-use Rattle.derivation.specs.declared.fault.FaultKind.{FaultKind}
 use Rattle.derivation.specs.declared.fault.FaultKind.TheVariants.{NoSuchGiven, NotWithin}
 use Rattle.std.proofs.lemmas.Bool.{and_parts}
-use Rattle.short_derivations.specs.Inferences.{Line, by_leaf, by_decomposition, Gives, AreGiven, EachIsUsed, NoneIsRepeated, givens_of}
+use Rattle.short_derivations.specs.Inferences.{Line, by_leaf, by_decomposition, EachIsUsed, NoneIsRepeated}
 use Rattle.short_derivations.specs.Links.{given_line}
-use Rattle.short_derivations.specs.Short.{Concludes, IsGivenAlone, IsPartOfGiven, FollowsFunctionally, NoneIsSpared, SparesNone, IsThrifty, IsShortDerivation}
+use Rattle.short_derivations.specs.Short.{Concludes, IsPartOfGiven, FollowsFunctionally, SparesNone, IsThrifty}
 use Rattle.short_derivations.specs.Emitted.{IsEmission}
 use Rattle.short_derivations.specs.Thrift.{IsThriftyOf, IsShortOf}
 use Rattle.short_derivations.proofs.NeededLemmas.{implies_part}

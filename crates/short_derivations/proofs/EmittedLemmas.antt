@@ -1,23 +1,21 @@
 -- The lines of a tree, from those of its premises.
-use Rattle.std.proofs.Common.{◌≡◌, ◌⊎◌, ℕ, zero, suc, ◌+◌, ◌<◌, ◌≤◌, inl, inr, List, [], ◌∷◌, ◌++◌, length, map, refl, ap, sym, ◌∙◌, subst, arith, append-nil, append_assoc, length-append}
+use Rattle.std.proofs.Common.{◌≡◌, ℕ, zero, suc, ◌+◌, ◌<◌, ◌≤◌, inl, inr, List, [], ◌∷◌, ◌++◌, length, refl, ap, sym, ◌∙◌, subst, arith, append-nil, append_assoc, length-append}
 use Rattle.std.specs.Prelude.{Some, Ok, slice_get, Contains, All}
 use Rattle.std.proofs.lemmas.Bool.{cases_lt}
-use Rattle.std.proofs.lemmas.List.{length-map, map-append}
+use Rattle.std.proofs.lemmas.List.{map-append}
 use Rattle.std.proofs.lemmas.Option.{slice_get_within}
 use Rattle.std.proofs.lemmas.List.Elements.{All-push, All-weaker, All-contains}
 use Rattle.dep_model.specs.Dependencies.{Dependency}
 use Rattle.dep_model.specs.Theories.{Theory}
 use Rattle.dep_model.proofs.ListLemmas.{Contains-map, map-member, All-members}
 use Rattle.derivation.specs.Trees.{Tree, Leaf, leaf, Step, step, Pair, pair, nodes}
-use Rattle.derivation.specs.Table.{leaf_conclusion, step_conclusion, pair_conclusion}
+use Rattle.derivation.specs.Table.{step_conclusion, pair_conclusion}
 use Rattle.derivation.specs.Conclusions.{Proves}
-use Rattle.derivation.specs.Direct.{IsIn, IsBelow, NoneBelow, IsDirect}
+use Rattle.derivation.specs.Direct.{IsIn, IsDirect}
 use Rattle.derivation.proofs.ConclusionLemmas.{Proves-one}
-use Rattle.derivation.proofs.TreeLemmas.{nodes-pos}
-use Rattle.short_derivations.specs.Inferences.{Line, by_leaf, by_step, by_pair, stated_by, Gives, AreGiven, IsUsed, EachIsUsed, NoneIsRepeated}
+use Rattle.short_derivations.specs.Inferences.{Line, by_leaf, by_step, by_pair, stated_by, Gives, IsUsed}
 use Rattle.short_derivations.specs.Emitted.{AreWritten, IsStatedOrPart, AreEmitted, IsEmission}
-use Rattle.short_derivations.specs.Short.{Concludes}
-use Rattle.short_derivations.proofs.PushedLines.{given_push, used_more, once_push, stated_push, stated_last, stands_more, stands_last, contains_at}
+use Rattle.short_derivations.proofs.PushedLines.{given_push, used_more, once_push, stated_push, stated_last, stands_more, stands_last}
 
 -- ---- parts of trees
 pub direct_step : (s : Theory) (rule : Step) (t : Tree) → IsDirect s (step rule t) → IsDirect s t

@@ -1,16 +1,16 @@
 -- Links that a goal needs, and those at the leaves of a functional chain.
-use Rattle.std.proofs.Common.{◌≡◌, ◌⊎◌, ℕ, zero, suc, ◌+◌, ◌*◌, ◌<◌, ◌≤◌, inl, inr, List, [], ◌∷◌, ◌++◌, length, map, drop, refl, ap, sym, ◌∙◌, subst, arith, append-nil, append_assoc, length-append}
-use Rattle.std.specs.Prelude.{Some, slice_get, Contains, All}
+use Rattle.std.proofs.Common.{◌≡◌, ℕ, zero, suc, ◌+◌, ◌*◌, ◌≤◌, inl, inr, List, [], ◌∷◌, ◌++◌, length, refl, ap, sym, ◌∙◌, subst, arith, append-nil, append_assoc, length-append}
+use Rattle.std.specs.Prelude.{slice_get, Contains, All}
 use Rattle.std.proofs.lemmas.List.{length-map, map-append, get_or_append_left, get_or-append-add}
 use Rattle.std.proofs.lemmas.List.Elements.{All-push, All-contains, All-head, Contains-append_left, Contains-append_right, Contains-append_cases}
-use Rattle.attr_sets.specs.Attributes.{Attributes, union, IsSubset}
+use Rattle.attr_sets.specs.Attributes.{Attributes, union}
 use Rattle.attr_sets.specs.Sets.{attributes}
 use Rattle.dep_model.specs.Tuples.{Relation}
 use Rattle.dep_model.specs.Dependencies.{Dependency, fd, Obeys, ObeysFd}
 use Rattle.dep_model.specs.Deps.{dependency_of, dependencies_of}
-use Rattle.dep_model.specs.Implication.{Implies, IsLegal}
+use Rattle.dep_model.specs.Implication.{Implies}
 use Rattle.dep_model.specs.Theories.{Theory, width_of, theory_of}
-use Rattle.dep_model.proofs.ListLemmas.{Contains-cases, Contains-head}
+use Rattle.dep_model.proofs.ListLemmas.{Contains-cases}
 use Rattle.dep_model.proofs.RuleLemmas.{reflexivity_obeyed, transitivity_obeyed, fd_weaker_obeyed}
 use Rattle.fd_closure.proofs.ClosureLemmas.{fd_added}
 use Rattle.derivation.specs.Trees.{Tree, nodes}

@@ -1,6 +1,6 @@
 -- What a line more keeps of a derivation.
-use Rattle.std.proofs.Common.{◌≡◌, ◌⊎◌, ℕ, zero, suc, ◌+◌, ◌<◌, inl, inr, List, [], ◌∷◌, ◌++◌, length, get_or, map, true, false, refl, ap, sym, ◌∙◌, subst, arith, add-one, take, take_all, append-nil, append_assoc, length-append}
-use Rattle.std.specs.Prelude.{Option, None, Some, option_map, IfSome, slice_get, Contains, All, AllPairs, filter}
+use Rattle.std.proofs.Common.{◌≡◌, ◌⊎◌, ℕ, zero, suc, ◌+◌, ◌<◌, inl, inr, List, [], ◌∷◌, ◌++◌, length, get_or, true, false, refl, ap, sym, ◌∙◌, subst, arith, add-one, take, take_all, append-nil, append_assoc, length-append}
+use Rattle.std.specs.Prelude.{Option, None, Some, option_map, IfSome, slice_get, Contains, All, filter}
 use Rattle.std.proofs.lemmas.Bool.{cases_lt}
 use Rattle.std.proofs.lemmas.List.{map-append}
 use Rattle.std.proofs.lemmas.Option.{slice_get_within, get_or_from_slice_get}
@@ -16,7 +16,7 @@ use Rattle.short_derivations.specs.declared.inference.Inference.{Inference}
 use Rattle.short_derivations.specs.Emitted.{AreWritten}
 use Rattle.short_derivations.specs.Short.{Concludes}
 use Rattle.short_derivations.specs.Views.{why_of, line_of, lines_of}
-use Rattle.short_derivations.specs.Inferences.{Line, Why, stated_by, Gives, AreGiven, premises_of, IsUsed, EachIsUsed, NoneIsRepeated, is_given, givens_of}
+use Rattle.short_derivations.specs.Inferences.{Line, stated_by, Gives, AreGiven, premises_of, IsUsed, EachIsUsed, NoneIsRepeated, is_given, givens_of}
 
 -- ---- what stands in a longer list
 pub stands_more : {X : Type 0} (xs ys : List X) (k : ℕ) (x : X) → slice_get xs k ≡ Some x → slice_get (xs ++ ys) k ≡ Some x

@@ -1,6 +1,6 @@
 -- The lines of a derivation that is a tree, each once: for the functions of `emitting.rt`. `Desk` does not
 -- cite it.
-use Rattle.std.specs.Prelude.{◌≡◌, ◌⊎◌, ◌≤◌, ◌<◌, ℕ, ◌+◌, List, [], ◌∷◌, ◌++◌, length, All, Contains, Some, slice_get}
+use Rattle.std.specs.Prelude.{◌≡◌, ◌⊎◌, ◌≤◌, ◌<◌, ℕ, ◌+◌, List, [], ◌++◌, length, All, Contains, Some, slice_get}
 use Rattle.dep_model.specs.Dependencies.{Dependency}
 use Rattle.dep_model.specs.Theories.{Theory}
 use Rattle.derivation.specs.Trees.{Tree, nodes}

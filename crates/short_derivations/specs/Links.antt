@@ -1,14 +1,14 @@
 -- Functional derivations that follow the closure of a left side: for the functions below `short_derivation`.
 -- `Desk` does not cite it.
 use Rattle.std.specs.Prelude.{◌≡◌, ◌⊎◌, ◌≤◌, ℕ, ◌+◌, ◌*◌, if◌then◌else◌, List, [], ◌∷◌, ◌++◌, length, map, All, Contains, Option, Some, slice_get}
-use Rattle.attr_sets.specs.Attributes.{Attributes, union, IsSubset}
+use Rattle.attr_sets.specs.Attributes.{Attributes, IsSubset}
 use Rattle.attr_sets.specs.Sets.{attributes, is_subset}
 use Rattle.dep_model.specs.declared.dep.Dep.{Dep}
 use Rattle.dep_model.specs.declared.dep.Dep.TheVariants.{Fd}
 use Rattle.dep_model.specs.Dependencies.{Dependency, fd, mvd, right_of}
 use Rattle.dep_model.specs.Deps.{dependencies_of}
 use Rattle.dep_model.specs.Implication.{Implies}
-use Rattle.dep_model.specs.Theories.{Theory, deps_of, theory_of}
+use Rattle.dep_model.specs.Theories.{Theory, theory_of}
 use Rattle.derivation.specs.Trees.{Tree, leaf, step, pair, given}
 use Rattle.short_derivations.specs.declared.links.Link.{Link}
 use Rattle.short_derivations.specs.Inferences.{Line, by_leaf, AreGiven, EachIsUsed, NoneIsRepeated, givens_of}

@@ -1,10 +1,10 @@
 -- When a derivation of a goal is short: for `short_derivation` and `explain implies`.
-use Rattle.std.specs.Prelude.{◌≡◌, ◌⊎◌, ◌≤◌, ℕ, ◌+◌, ◌*◌, List, [], ◌∷◌, ◌++◌, length, All, Contains}
+use Rattle.std.specs.Prelude.{◌≡◌, ◌≤◌, ℕ, ◌+◌, ◌*◌, List, [], ◌∷◌, ◌++◌, length, All, Contains}
 use Rattle.attr_sets.specs.Attributes.{Attributes, IsSubset}
 use Rattle.dep_model.specs.Dependencies.{Dependency, fd, mvd, functional_part}
 use Rattle.dep_model.specs.Implication.{Implies}
 use Rattle.dep_model.specs.Theories.{Theory, theory_of, width_of}
-use Rattle.derivation.specs.Trees.{Tree, given, nodes}
+use Rattle.derivation.specs.Trees.{given}
 use Rattle.short_derivations.specs.Inferences.{Line, by_leaf, AreGiven, EachIsUsed, NoneIsRepeated, givens_of}
 
 -- the last line states the goal

@@ -1,6 +1,6 @@
 -- What is left to prove of `print_derivation`: what is required of each line, and that a round of its loop
 -- adds a line.
-use Rattle.std.proofs.Common.{◌≡◌, ◌∙◌, ap, sym, arith, List, ℕ, ◌+◌, ◌++◌, get_or}
+use Rattle.std.proofs.Common.{◌∙◌, ap, sym, List, ℕ, ◌+◌, ◌++◌, get_or}
 use Rattle.schema_model.specs.Schemas.{universe_of}
 use Rattle.dep_model.specs.declared.dep.Dep.TheVariants.{Fd}
 use Rattle.derivation.specs.declared.rule.LeafRule.TheVariants as leaves

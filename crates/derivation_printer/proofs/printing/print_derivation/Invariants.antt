@@ -1,7 +1,5 @@
 -- What the loop of `print_derivation` keeps: the text of the lines before.
 use Rattle.std.proofs.Common.{◌≡◌, take}
-use Rattle.std.specs.List.{flat_map}
-use Rattle.schema_printer.specs.Spelling.{printed_names_of}
 use Rattle.short_derivations.specs.Views.{lines_of}
 use Rattle.derivation_printer.specs.Printing.{derivation_text}
 use Rattle.derivation_printer.proofs.printing.print_derivation.Given as goal

@@ -1,9 +1,8 @@
 -- What is left to prove of `begin`: that a chain has begun.
-use Rattle.std.proofs.Common.{◌≡◌, ◌∙◌, sym, ap, refl, List, [], ◌∷◌, ◌++◌}
+use Rattle.std.proofs.Common.{◌≡◌, ◌∙◌, sym, ap, List, [], ◌∷◌, ◌++◌}
 use Rattle.std.proofs.lemmas.Bool.{false≢true}
 use Rattle.std.proofs.lemmas.Result.{on_ok_weaker}
 use Rattle.attr_sets.specs.Sets.{attributes}
-use Rattle.short_derivations.specs.Inferences.{Line}
 use Rattle.short_derivations.specs.Links.{given_line}
 use Rattle.short_derivations.specs.Views.{lines_of}
 use Rattle.short_derivations.specs.declared.inference.Inference.{Inference}

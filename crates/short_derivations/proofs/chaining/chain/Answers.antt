@@ -1,13 +1,12 @@
 -- What is left to prove of `chain`: that some link leads on as long as the goal is not reached, that the loop
 -- ends, and that a round of it keeps the invariant.
-use Rattle.std.proofs.Common.{◌≡◌, ◌∙◌, sym, refl, inl, inr, subst, arith}
+use Rattle.std.proofs.Common.{◌∙◌, sym, refl, inl, inr, subst, arith}
 use Rattle.std.proofs.lemmas.Bool.{false≢true}
 use Rattle.std.proofs.lemmas.List.Elements.{All-contains}
 use Rattle.attr_sets.specs.declared.set.TheConstants.{MOST_ATTRIBUTES}
-use Rattle.attr_sets.specs.Attributes.{Attributes, union, IsSubset}
+use Rattle.attr_sets.specs.Attributes.{Attributes}
 use Rattle.attr_sets.specs.Sets.{attributes}
 use Rattle.attr_sets.proofs.AttributesLemmas.{attributes_below, tell_subset, count_below-lt, count_below-le, same_at}
-use Rattle.dep_model.specs.Theories.{universe_of}
 use Rattle.derivation.proofs.ChainLemmas.{given_within}
 use Rattle.short_derivations.specs.Links.{IsLinkOf, IsBegun}
 use Rattle.short_derivations.specs.Views.{lines_of}

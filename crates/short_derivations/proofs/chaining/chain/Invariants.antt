@@ -1,5 +1,5 @@
 -- What the loop of `chain` keeps, and by what it ends.
-use Rattle.std.proofs.Common.{ℕ, ◌-◌}
+use Rattle.std.proofs.Common.{◌-◌}
 use Rattle.attr_sets.specs.Attributes.{IsSubset, count_below}
 use Rattle.attr_sets.specs.Sets.{attributes}
 use Rattle.attr_sets.specs.declared.set.TheConstants.{MOST_ATTRIBUTES}

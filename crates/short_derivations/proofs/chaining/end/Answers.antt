@@ -1,10 +1,9 @@
 -- What is left to prove of `end`: that the chain is a derivation of its goal.
-use Rattle.std.proofs.Common.{◌≡◌, ◌+◌, ◌-◌, ◌∙◌, sym, ap, refl, subst, arith, List, [], ◌∷◌, ◌++◌, length, length-append}
+use Rattle.std.proofs.Common.{◌-◌, ◌∙◌, sym, ap, subst, arith, [], ◌∷◌, length, length-append}
 use Rattle.std.proofs.lemmas.Bool.{false≢true}
 use Rattle.std.proofs.lemmas.List.{length-map}
 use Rattle.std.proofs.lemmas.Result.{on_ok_weaker}
 use Rattle.attr_sets.specs.Sets.{attributes}
-use Rattle.short_derivations.specs.Inferences.{Line}
 use Rattle.short_derivations.specs.Links.{IsLinked}
 use Rattle.dep_model.specs.Dependencies.{fd}
 use Rattle.short_derivations.specs.Views.{line_of, lines_of}

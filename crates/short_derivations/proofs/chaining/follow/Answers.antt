@@ -1,5 +1,5 @@
 -- What is left to prove of `follow`: what `begin` and `extend` require, and that the chain has gone on.
-use Rattle.std.proofs.Common.{◌≡◌, ◌∙◌, sym, ap, refl, subst}
+use Rattle.std.proofs.Common.{◌∙◌, sym, subst}
 use Rattle.std.proofs.lemmas.Bool.{false≢true}
 use Rattle.std.proofs.lemmas.Result.{on_ok_weaker}
 use Rattle.attr_sets.specs.Attributes.{Attributes}

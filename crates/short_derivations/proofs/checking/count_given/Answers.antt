@@ -1,6 +1,6 @@
 -- What is left to prove of `count_given`: that a round of its loop keeps the invariant, and what it has
 -- counted.
-use Rattle.std.proofs.Common.{◌≡◌, ◌≤◌, ◌+◌, ◌∙◌, ap, sym, subst, arith, take_all, take, List, [], ◌∷◌, ◌++◌, length, length-append}
+use Rattle.std.proofs.Common.{◌≡◌, ◌+◌, ◌∙◌, ap, sym, subst, arith, take_all, take, List, length, length-append}
 use Rattle.std.specs.Prelude.{All, Contains}
 use Rattle.std.proofs.lemmas.List.Elements.{All-push}
 use Rattle.dep_model.specs.Dependencies.{Dependency}

@@ -1,5 +1,5 @@
 -- What is left to prove of `ends_with`: that the last line states the goal.
-use Rattle.std.proofs.Common.{◌≡◌, ◌-◌, arith, length}
+use Rattle.std.proofs.Common.{◌-◌, arith, length}
 use Rattle.dep_model.specs.Deps.{dependency_of}
 use Rattle.short_derivations.proofs.PushedLines.{ends_at}
 use Rattle.short_derivations.proofs.checking.ends_with.Goals as goal

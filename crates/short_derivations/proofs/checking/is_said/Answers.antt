@@ -1,5 +1,5 @@
 -- What is left to prove of `is_said`: that a link says the dependency.
-use Rattle.std.proofs.Common.{◌≡◌, subst}
+use Rattle.std.proofs.Common.{subst}
 use Rattle.std.specs.Prelude.{Contains}
 use Rattle.std.proofs.lemmas.List.Elements.{Contains-get_or}
 use Rattle.short_derivations.specs.Links.{said_by}

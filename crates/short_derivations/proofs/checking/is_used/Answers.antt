@@ -1,6 +1,5 @@
 -- What is left to prove of `is_used`: which line uses it.
-use Rattle.std.proofs.Common.{◌≡◌, arith}
-use Rattle.short_derivations.specs.Views.{line_of}
+use Rattle.std.proofs.Common.{arith}
 use Rattle.short_derivations.proofs.PushedLines.{line_there}
 use Rattle.short_derivations.proofs.checking.is_used.Goals as goal
 

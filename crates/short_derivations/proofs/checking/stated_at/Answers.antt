@@ -1,5 +1,5 @@
 -- What is left to prove of `stated_at`: what the line states.
-use Rattle.std.proofs.Common.{◌≡◌, arith}
+use Rattle.std.proofs.Common.{arith}
 use Rattle.short_derivations.proofs.PushedLines.{stated_there}
 use Rattle.short_derivations.proofs.checking.stated_at.Goals as goal
 

@@ -1,12 +1,12 @@
 -- What is left to prove of `states`: that no line states the dependency.
-use Rattle.std.proofs.Common.{◌≡◌, ◌∙◌, sym, ap, subst, take_all, take, List, ◌++◌, [], ◌∷◌}
-use Rattle.std.specs.Prelude.{Some, All}
+use Rattle.std.proofs.Common.{◌≡◌, ◌∙◌, sym, subst, take_all, take, List}
+use Rattle.std.specs.Prelude.{All}
 use Rattle.std.proofs.lemmas.Bool.{false≢true}
 use Rattle.std.proofs.lemmas.List.Elements.{All-push}
 use Rattle.dep_model.specs.Deps.{dependency_of}
 use Rattle.short_derivations.specs.declared.inference.Inference.{Inference}
 use Rattle.short_derivations.specs.Inferences.{Line}
-use Rattle.short_derivations.specs.Views.{line_of, lines_of}
+use Rattle.short_derivations.specs.Views.{lines_of}
 use Rattle.short_derivations.proofs.PushedLines.{lines_next}
 use Rattle.short_derivations.proofs.checking.states.Goals as goal
 

@@ -1,5 +1,5 @@
 -- What is left to prove of `try_line`: that the lines with one more are written.
-use Rattle.std.proofs.Common.{◌≡◌, sym, subst}
+use Rattle.std.proofs.Common.{sym, subst}
 use Rattle.std.proofs.lemmas.Result.{on_ok_weaker}
 use Rattle.dep_model.specs.Deps.{dependency_of}
 use Rattle.short_derivations.specs.Emitted.{AreWritten}

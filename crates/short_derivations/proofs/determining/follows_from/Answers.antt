@@ -1,8 +1,7 @@
 -- What is left to prove of `follows_from`: that the dependencies of the links lie within, and what they imply.
-use Rattle.std.proofs.Common.{◌≡◌, ◌∙◌, ap, List, [], ◌++◌}
+use Rattle.std.proofs.Common.{◌≡◌, ◌∙◌, ap, List, ◌++◌}
 use Rattle.dep_model.specs.declared.dep.Dep.{Dep}
-use Rattle.dep_model.specs.Deps.{dependencies_of, IsDepWithin}
-use Rattle.dep_model.specs.Theories.{universe_of}
+use Rattle.dep_model.specs.Deps.{dependencies_of}
 use Rattle.short_derivations.specs.Links.{deps_of_links, said_by}
 use Rattle.short_derivations.proofs.ChainSteps.{links_within}
 use Rattle.short_derivations.proofs.determining.follows_from.Goals as goal

@@ -1,9 +1,7 @@
 -- What is left to prove of `needed_chain`: what is required, and that the lines are thrifty.
-use Rattle.std.proofs.Common.{◌≡◌, ◌≤◌, ◌∙◌, ◌*◌, ◌+◌, ap, sym, arith, subst, List, length}
+use Rattle.std.proofs.Common.{◌≤◌, ◌∙◌, ◌*◌, ap, sym, arith, subst, List, length}
 use Rattle.attr_sets.specs.Sets.{attributes}
-use Rattle.dep_model.specs.Dependencies.{Dependency, fd}
-use Rattle.dep_model.specs.Implication.{Implies}
-use Rattle.dep_model.specs.Theories.{width_of}
+use Rattle.dep_model.specs.Dependencies.{fd}
 use Rattle.derivation.specs.Derivs.{tree_of}
 use Rattle.derivation.specs.Trees.{nodes}
 use Rattle.short_derivations.specs.declared.links.Link.{Link}

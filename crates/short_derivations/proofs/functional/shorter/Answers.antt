@@ -1,5 +1,5 @@
 -- What is left to prove of `shorter`: that the lines that are chosen are tried.
-use Rattle.std.proofs.Common.{◌≡◌, ◌∙◌, ap, arith, length}
+use Rattle.std.proofs.Common.{arith}
 use Rattle.std.proofs.lemmas.List.{length-map}
 use Rattle.short_derivations.specs.Views.{line_of}
 use Rattle.short_derivations.proofs.functional.shorter.Goals as goal

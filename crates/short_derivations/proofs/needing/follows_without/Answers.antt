@@ -1,6 +1,6 @@
 -- What is left to prove of `follows_without`: that the dependencies of the links lie within, and what they
 -- imply.
-use Rattle.std.proofs.Common.{◌≡◌, ◌∙◌, sym, ap, List, [], ◌++◌}
+use Rattle.std.proofs.Common.{◌≡◌, ◌∙◌, sym, ap, List, ◌++◌}
 use Rattle.std.proofs.lemmas.List.{map-append}
 use Rattle.std.proofs.lemmas.List.Elements.{All-append}
 use Rattle.dep_model.specs.declared.dep.Dep.{Dep}

@@ -1,5 +1,4 @@
 -- What is left to prove of `add_given_by`: that all lie within.
-use Rattle.std.proofs.Common.{◌≡◌}
 use Rattle.std.proofs.lemmas.List.Elements.{All-push}
 use Rattle.dep_model.specs.Deps.{IsDepWithin}
 use Rattle.dep_model.specs.Theories.{universe_of}

@@ -1,5 +1,4 @@
 -- What is left to prove of `given_by`: that the dependency lies within.
-use Rattle.std.proofs.Common.{◌≡◌}
 use Rattle.short_derivations.proofs.PushedLines.{given_within_theory}
 use Rattle.short_derivations.proofs.sparing.given_by.Goals as goal
 
