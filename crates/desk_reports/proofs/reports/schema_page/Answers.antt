@@ -18,7 +18,7 @@ returns c =
         adds.is,
         c.with_text.ensures.says
             ∙ ap (text_only Yes) (c.in_ok-close_page.ensures.added
-            ∙ ap (λ (t : List ℕ). t ++ end) (adds.added ∙ ap (λ (t : List ℕ). t ++ adds.piece) c.in_ok-text.ensures.text)
+            ∙ ap (λ (t : List ℕ). t ++ end) (adds.added ∙ ap (λ (t : List ℕ). t ++ adds.piece) (c.in_ok-text.ensures.text ∙ ap front_text c.bytes.ensures.value))
             ∙ append_assoc front adds.piece end),
       );
     }
