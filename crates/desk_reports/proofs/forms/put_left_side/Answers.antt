@@ -13,8 +13,8 @@ use Rattle.desk_reports.specs.Pieces.{Folds}
 use Rattle.desk_reports.proofs.PieceLemmas.{adds_folded, adds_weaker}
 use Rattle.desk_reports.proofs.forms.put_left_side.Goals as goal
 
-pub is_implied-requires : goal.is_implied-requires
-is_implied-requires c = record { within = rw (c.theory.ensures.theory) (c.determining_all-all.ensures.within c.requires.within) }
+pub is_implied-is_key-requires : goal.is_implied-is_key-requires
+is_implied-is_key-requires c = record { within = rw (c.theory.ensures.theory) (c.determining_all-all.ensures.within c.requires.within) }
 
 pub returns : goal.returns
 returns c =

@@ -62,7 +62,7 @@ returns-in-Ok-None c =
     let told = subst (λ (found : Option Breach). IsNone found ↔ IsInTested (width_of s) (theory_of s) c.args.form (attributes c.full.result)) c.in-Ok-None.field-0-is says in
     record {
       added = adds_nothing (ShowsViolation c.args.file.now s c.args.form) _
-          (inl (inr (subst (λ (u : Attributes). IsInTested (width_of s) (theory_of s) c.args.form u) whole (told.0 tt)), refl));
+          (inl (inr (subst (λ (u : Attributes). IsInTested (width_of s) (theory_of s) c.args.form u) whole (told.0 refl)), refl));
     }
 
 pub returns-in-Err : goal.returns-in-Err

@@ -46,7 +46,7 @@ returns-in-Ok c =
     let plan = scheme_sets c.in-Ok.found.plan in
     let at = (goal.at.returns-in-Ok c).In_ok-add_heading in
     let shown = Then (ShowsPlan file s form) (ShowsTablesIfAny file s form) in
-    let title_is = c.deref-2.ensures.value ∙ titled at in
+    let title_is = c.deref-in-Ok.ensures.value ∙ titled at in
     record {
       added = on_ok_weaker c.put_tables.result
           (λ adds.
@@ -58,20 +58,20 @@ returns-in-Ok c =
           c.put_tables.ensures.added;
     }
 
-pub returns-in-Err : goal.returns-in-Err
-returns-in-Err c =
+pub returns : goal.returns
+returns c =
     let s = c.args.schema.now in
     let file = c.args.file.now in
     let form = c.args.form in
-    let at = (goal.at.returns-in-Err c).In_ok-add_heading in
+    let at = (goal.at.returns c).In_ok-add_heading in
     let title = title_with_words (codes "The tables") (plan_words form ++ shell_word file) in
     let shown = Then (ShowsPlan file s form) (ShowsTablesIfAny file s form) in
     record {
       added = on_ok_weaker c.put_opened.result
           (λ adds.
           adds_section (tables_heading form) c.heading_of.result.now shown _ _ _ c.heading_of.ensures.heading c.in_ok-add_heading.ensures.added
-          (adds_weaker (OpensText c.deref-2.result.now (Err c.in-Err.exit)) shown _ _
-          (refused_piece s file form title c.deref-2.result.now c.in-Err.exit (c.deref-2.ensures.value ∙ titled at) c.in-Err.ensures.exit)
+          (adds_weaker (OpensText c.deref-in-Err.result.now (Err c.in-Err.exit)) shown _ _
+          (refused_piece s file form title c.deref-in-Err.result.now c.in-Err.exit (c.deref-in-Err.ensures.value ∙ titled at) c.in-Err.ensures.exit)
           adds))
           c.put_opened.ensures.added;
     }
