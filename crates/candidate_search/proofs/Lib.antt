@@ -4,3 +4,4 @@ pub mod TestLemmas
 pub mod AskLemmas
 pub mod FindingLemmas
 pub mod LevelLemmas
+pub mod FewLemmas

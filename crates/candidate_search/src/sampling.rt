@@ -14,11 +14,16 @@ use dep_model::OutOfMemory;
 use row_groups::Interned;
 use std::alloc::Global;
 
-// Evidence to begin with: what neighbours in the orders of the columns agree on, and what is given.
+// The most members of left sides for which neighbours are not looked at: it takes longer than to test them.
+const FEW_MEMBERS: u8 = 1;
+
+// Evidence to begin with: what neighbours in the orders of the columns agree on, where left sides may have some members,
+// and what is given.
 pub fn first_evidence(
     alloc: Global,
     codes: &Interned,
     width: u8,
+    most: u8,
     seen: &[AttrSet],
 ) -> Result<Vec<AttrSet>, OutOfMemory>
     requires width { width ≤ MOST_ATTRIBUTES }
@@ -26,18 +31,26 @@ pub fn first_evidence(
     ensures evidence { (r : Relation) → AreCoded width r codes.now → AreEvidence width r (schemes_of seen.now)
         → IfOk result (λ found. AreEvidence width r (schemes_of found.items)) }
 {
-    let mut found = early_evidence(alloc, codes, width)?;
+    let mut found = early_evidence(alloc, codes, width, most)?;
     found.extend_from_slice(seen)?;
     Ok(found)
 }
 
 // What neighbours in the orders of the columns agree on, larger sets first.
-fn early_evidence(alloc: Global, codes: &Interned, width: u8) -> Result<Vec<AttrSet>, OutOfMemory>
+fn early_evidence(
+    alloc: Global,
+    codes: &Interned,
+    width: u8,
+    most: u8,
+) -> Result<Vec<AttrSet>, OutOfMemory>
     requires width { width ≤ MOST_ATTRIBUTES }
     requires rows { (r : Relation) × AreCoded width r codes.now }
     ensures evidence { (r : Relation) → AreCoded width r codes.now
         → IfOk result (λ found. AreEvidence width r (schemes_of found.items)) }
 {
+    if most <= FEW_MEMBERS {
+        return Ok(Vec::new(alloc));
+    }
     let pairs = neighbour_pairs(alloc, codes, width)?;
     let mut found = agreements(alloc, codes, width, &pairs)?;
     found.sort_by_key(|set| set.len())?;

@@ -1,6 +1,6 @@
 -- Judging the lines of a derivation one after another: what the loop of `mistaken_lines` keeps.
 use Rattle.std.proofs.Common.{◌≡◌, ◌<◌, ◌≤◌, ◌+◌, ◌-◌, ℕ, zero, suc, List, [], ◌∷◌, ◌++◌, length, take, get_or, refl, sym, ◌∙◌, ap, subst, arith}
-use Rattle.std.specs.Prelude.{All, map}
+use Rattle.std.specs.Prelude.{All}
 use Rattle.std.proofs.lemmas.List.{get_or-map, length-map, length-take-le, map-append, take-map, take_all, take_more}
 use Rattle.std.proofs.lemmas.List.Elements.{All-map, All-take}
 use Rattle.schema_model.specs.Schemas.{Schema, naming_of, universe_of}

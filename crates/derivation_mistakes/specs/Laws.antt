@@ -1,6 +1,6 @@
 -- The laws on what is wrong with the lines of a derivation: for the functions of `laws.rt`. `Desk` does not
 -- cite it.
-use Rattle.std.specs.Prelude.{◌≡◌, ◌↔◌, ℕ, List, [], All, length}
+use Rattle.std.specs.Prelude.{◌≡◌, ◌↔◌, ℕ, List, []}
 use Rattle.schema_model.specs.Schemas.{Schema}
 use Rattle.dep_model.specs.Dependencies.{Dependency}
 use Rattle.derivation_grammar.specs.Derivations.{Derives, LastStates}

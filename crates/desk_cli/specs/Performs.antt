@@ -10,9 +10,9 @@ use Rattle.desk_responses.specs.ResponseValues.{Allowed, Says}
 use Rattle.desk_implication.specs.Bases.{GivesBasis}
 use Rattle.desk_implication.specs.Certificates.{ChecksProof}
 use Rattle.desk_implication.specs.Closures.{GivesClosure}
-use Rattle.desk_covers.specs.CoverChecks.{ChecksCover}
+use Rattle.desk_covers.specs.CoverChecks.{ChecksCanonicalCover, ChecksCover}
 use Rattle.desk_covers.specs.CoverReasons.{ExplainsCover}
-use Rattle.desk_covers.specs.Covering.{GivesCover}
+use Rattle.desk_covers.specs.Covering.{GivesCanonicalCover, GivesCover}
 use Rattle.desk_designs.specs.Decompositions.{Splits, SplitsWide}
 use Rattle.desk_designs.specs.Designs.{WritesForm, WritesPlan}
 use Rattle.desk_designs.specs.FewestReasons.{ExplainsFewest}
@@ -35,6 +35,7 @@ use Rattle.desk_inputs.specs.Headed.{headed_file, imported_file, whole_file}
 use Rattle.desk_inputs.specs.HeadedFiles.{WithHeadedFiles}
 use Rattle.desk_inputs.specs.Sql.{sql_file}
 use Rattle.desk_cli.specs.Help.{help_text, version_text}
+use Rattle.desk_implication.specs.Explanations.{ExplainsImplication}
 use Rattle.desk_implication.specs.Implication.{DecidesGoal}
 use Rattle.desk_inputs.specs.Inputs.{derivation_file, proof_file, schema_file}
 use Rattle.desk_designs.specs.Joins.{JudgesJoin}

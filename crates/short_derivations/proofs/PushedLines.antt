@@ -1,15 +1,17 @@
 -- What a line more keeps of a derivation.
 use Rattle.std.proofs.Common.{◌≡◌, ◌⊎◌, ℕ, zero, suc, ◌+◌, ◌<◌, inl, inr, List, [], ◌∷◌, ◌++◌, length, get_or, map, true, false, refl, ap, sym, ◌∙◌, subst, arith, add-one, take, take_all, append-nil, append_assoc, length-append}
-use Rattle.std.specs.Prelude.{Some, slice_get, Contains, All, AllPairs, filter}
+use Rattle.std.specs.Prelude.{Option, None, Some, option_map, IfSome, slice_get, Contains, All, AllPairs, filter}
 use Rattle.std.proofs.lemmas.Bool.{cases_lt}
 use Rattle.std.proofs.lemmas.List.{map-append}
 use Rattle.std.proofs.lemmas.Option.{slice_get_within, get_or_from_slice_get}
-use Rattle.std.proofs.lemmas.List.Elements.{filter-append, All-push}
+use Rattle.std.proofs.lemmas.List.Elements.{filter-append, All-contains}
 use Rattle.std.proofs.lemmas.List.Quantifiers.{all_pairs_push}
 use Rattle.std.proofs.Math.Seq.{take-suc}
-use Rattle.dep_model.specs.Dependencies.{Dependency}
-use Rattle.dep_model.specs.Deps.{dependency_of}
-use Rattle.dep_model.specs.Theories.{Theory}
+use Rattle.dep_model.specs.declared.dep.Dep.{Dep}
+use Rattle.dep_model.specs.Dependencies.{Dependency, IsWithin}
+use Rattle.dep_model.specs.Deps.{dependency_of, IsDepWithin}
+use Rattle.dep_model.proofs.DepLemmas.{dependencies_all-from}
+use Rattle.dep_model.specs.Theories.{Theory, deps_of, theory_of, universe_of}
 use Rattle.short_derivations.specs.declared.inference.Inference.{Inference}
 use Rattle.short_derivations.specs.Emitted.{AreWritten}
 use Rattle.short_derivations.specs.Short.{Concludes}
@@ -145,3 +147,11 @@ pub givens_next_other : (items : List Inference) (k : ℕ) (d : Inference) → k
 givens_next_other items k d low other =
     ap givens_of (lines_next items k d low) ∙ givens_push (lines_of (take k items)) (line_of (get_or items k d))
     ∙ ap (λ (ds : List Dependency). givens_of (lines_of (take k items)) ++ ds) (rw other refl) ∙ append-nil (givens_of (lines_of (take k items)))
+
+-- ---- what is given lies within
+pub given_within_theory : (s : Theory) (k : ℕ) (found : Option Dep) → option_map dependency_of found ≡ slice_get (theory_of s) k
+    → IfSome found (IsDepWithin (universe_of s))
+given_within_theory s k None is = tt {0}
+given_within_theory s k (Some d) is =
+    All-contains (IsWithin (universe_of s)) (theory_of s) (dependency_of d)
+    (dependencies_all-from (IsWithin (universe_of s)) (deps_of s) s.valid.deps_within) (contains_at (theory_of s) k (dependency_of d) (sym is))

@@ -71,7 +71,7 @@ fn add_given(theory: &Theory, position: u16, links: &mut Vec<Link>) -> Result<()
 }
 
 // The dependency at a position.
-fn given_at(theory: &Theory, position: u16) -> Option<Dep>
+pub fn given_at(theory: &Theory, position: u16) -> Option<Dep>
     ensures at { option_map dependency_of result ≡ slice_get (theory_of theory.now) position }
 {
     match theory.deps().get(position as usize) {
@@ -81,7 +81,7 @@ fn given_at(theory: &Theory, position: u16) -> Option<Dep>
 }
 
 // Adds a dependency that stands at a position, if it is functional.
-fn add_functional(links: &mut Vec<Link>, position: u16, dep: Dep) -> Result<(), OutOfMemory>
+pub fn add_functional(links: &mut Vec<Link>, position: u16, dep: Dep) -> Result<(), OutOfMemory>
     ensures links { (s : Theory) → slice_get (theory_of s) position ≡ Some (dependency_of dep)
         → All (IsLinkOf s) links.old.items → OnOk result (All (IsLinkOf s) links.new.items) }
     ensures said { OnOk result (said_by links.new.items

@@ -1,4 +1,4 @@
-ghost use Rattle.std.specs.Prelude.{◌≡◌, ◌≤◌, [], ◌∷◌, length, ◌↔◌, IsTrue, IfOk, IsNone, IfSome, Some, slice_get, All, Contains};
+ghost use Rattle.std.specs.Prelude.{◌≡◌, ◌≤◌, [], ◌∷◌, length, ◌↔◌, IsTrue, IfOk, IsNone, IfSome, Contains};
 ghost use Rattle.attr_sets.specs.Attributes.{Attributes, IsSubset};
 ghost use Rattle.attr_sets.specs.Sets.{attributes};
 ghost use Rattle.dep_model.specs.Dependencies.{fd, mvd};
@@ -16,12 +16,14 @@ ghost use Rattle.short_derivations.specs.Views.{lines_of};
 
 use crate::emitting::emitted;
 use crate::functional::needed_chain;
+use crate::given::number_given;
 use crate::lines::add_line;
 use crate::links::Link;
+use crate::sparing::sparing;
 use crate::{Inference, Reason};
 use attr_sets::AttrSet;
 use dep_model::{Dep, OutOfMemory, Theory, sides};
-use derivation::{Deriv, LeafRule, same_dep};
+use derivation::{Deriv, LeafRule, nodes};
 use fd_closure::follows;
 use std::alloc::Global;
 
@@ -73,19 +75,6 @@ fn short_lines(
         Dep::Fd { lhs, rhs } => functional(alloc, theory, lhs, rhs, certificate),
         Dep::Mvd { lhs, rhs } => multivalued(alloc, theory, lhs, rhs, certificate),
     }
-}
-
-// The first position at which a dependency is given.
-fn number_given(theory: &Theory, goal: Dep) -> Option<u16>
-    ensures none { IsNone result → Contains (theory_of theory.now) (dependency_of goal) → ⊥ }
-    ensures given { IfSome result (λ k. slice_get (theory_of theory.now) k ≡ Some (dependency_of goal)) }
-{
-    for (k, dep) in theory.deps().iter().enumerate() {
-        if same_dep(*dep, goal) {
-            return Some(k as u16);
-        }
-    }
-    None
 }
 
 // A single line, by a rule without premises.
@@ -208,5 +197,6 @@ fn multivalued(
             LeafRule::MReflexivity { lhs, rhs },
         );
     }
-    emitted(alloc, theory, certificate, Dep::Mvd { lhs, rhs })
+    let lines = emitted(alloc, theory, certificate, Dep::Mvd { lhs, rhs })?;
+    sparing(alloc, theory, lhs, rhs, lines, nodes(certificate))
 }

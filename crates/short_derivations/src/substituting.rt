@@ -150,7 +150,7 @@ fn narrow(
 }
 
 // The number of the last line, and the sides of what it states.
-fn last_line(lines: &[Inference]) -> Option<(u32, AttrSet, AttrSet)>
+pub fn last_line(lines: &[Inference]) -> Option<(u32, AttrSet, AttrSet)>
     ensures small { IfSome result (λ last. last.0 < MOST_NODES) }
 {
     let count = lines.len();

@@ -33,8 +33,9 @@ returns c =
     let y = attributes c.args.rhs in
     let most = nodes (tree_of c.args.certificate.now) in
     record {
-      short = IfOk-weaker c.emitted.result
+      short = IfOk-weaker c.sparing.result
           (λ lines. IsEmission s (mvd x y) most (lines_of lines.items))
           (λ lines. IsShortOf s (mvd x y) most (lines_of lines.items))
-          (λ lines emission. short_multivalued s x y most (lines_of lines.items) c.requires.new emission) c.emitted.ensures.emission;
+          (λ lines emission. short_multivalued s x y most (lines_of lines.items) c.requires.new emission)
+          (rw c.nodes.ensures.count at c.sparing.ensures.emission);
     }

@@ -8,7 +8,7 @@ use Rattle.dep_model.specs.declared.dep.Dep.TheVariants.{Fd}
 use Rattle.dep_model.specs.Deps.{dependency_of}
 use Rattle.dep_model.specs.Theories.{deps_of}
 use Rattle.dep_model.proofs.ListLemmas.{map-member}
-use Rattle.short_derivations.proofs.composing.number_given.Goals as goal
+use Rattle.short_derivations.proofs.given.number_given.Goals as goal
 
 pub loop-k-preserved : goal.loop-k-preserved
 loop-k-preserved c =

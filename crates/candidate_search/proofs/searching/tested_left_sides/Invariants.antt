@@ -1,4 +1,4 @@
--- What the loop of `minimal_left_sides` keeps: `rights`, `findings`, `tested`.
+-- What the loop of `tested_left_sides` keeps: `rights`, `findings`, `tested`.
 use Rattle.std.proofs.Common.{◌≡◌}
 use Rattle.std.specs.Prelude.{All}
 use Rattle.dep_model.specs.Plans.{schemes_of}
@@ -7,7 +7,7 @@ use Rattle.candidate_sets.specs.Evidence.{AreEvidence}
 use Rattle.candidate_search.specs.Levels.{AreTabled}
 use Rattle.candidate_search.specs.Findings.{AreFindings}
 use Rattle.candidate_search.specs.Sides.{IsTested, rights_of}
-use Rattle.candidate_search.proofs.searching.minimal_left_sides.Given as goal
+use Rattle.candidate_search.proofs.searching.tested_left_sides.Given as goal
 
 -- the candidates of fewer members are obeyed
 abbrev pub invariant-loop-size : goal.invariant-loop-size

@@ -1,0 +1,4 @@
+pub mod BranchLemmas
+pub mod LackLemmas
+pub mod FindLemmas
+pub mod LargestLemmas
