@@ -37,6 +37,7 @@ class Maker:
     def __init__(self, rng):
         self.r = rng
         self.any_names = False
+        self.nullable = None
 
     def some(self, n, most=3, least=0):
         """A small set of places."""
@@ -99,7 +100,9 @@ class Maker:
                 lines[-1] += " " + self.spelled(name)
             else:
                 lines.append(f"{word} {self.spelled(name)}")
-        if r.random() < .6:
+        if self.nullable is not None:
+            lines += ["nullable " + self.side(names, self.nullable)] * (self.nullable != 0)
+        elif r.random() < .6:
             some = self.some(len(names), 3, 1)
             lines.append("nullable " + self.side(names, some))
         return lines
@@ -695,7 +698,7 @@ def f_discover(m):
     s = (NAMES[:n], ["text"] * n, [])
     names = list(s[0])
     if m.r.random() < .1:
-        names[m.r.randrange(n)] = m.r.choice(("scheme", "a", "1x", "", "Version", "x" * 32, "b_", "integer", "x" * 64, "Unit price", 'a"b', "\x7f"))
+        names[m.r.randrange(n)] = m.r.choice(("scheme", "a", "1x", "", "Version", "x" * 32, "b_", "integer", "x" * 64, "Unit price", 'a"b', "\x7f", "\ufeffa", "a\ufeff"))
     rows = m.rows(s, m.r.choice((2, 4, 8, 12)), 0)
     words = m.r.choice((["discover"], ["discover"], ["discover", "keys"], ["discover", str(m.r.randint(0, 5))], ["discover", m.r.choice(("02", "00", "16", "64", "65", "007"))]))
     if n <= 6 and m.r.random() < .3:
@@ -739,7 +742,7 @@ def f_import_csv(m):
     n = r.randint(1, 6) if r.random() < .95 else r.randint(126, 130)
     names = r.sample(r.choice((NAMES, STRANGE)), n) if n <= 6 else [f"a{i}" for i in range(n)]
     if r.random() < .1:
-        names[r.randrange(n)] = r.choice(("scheme", "a", "1x", "", "Version", "x" * 64, "Unit price", "\x7f", names[0]))
+        names[r.randrange(n)] = r.choice(("scheme", "a", "1x", "", "Version", "x" * 64, "Unit price", "\x7f", "\ufeffa", names[0]))
     columns = [r.choice(LIKE) for _ in names]
     odd = r.choice((0, 0, .05, .3))
     rows = [[b"" if r.random() < .08 else r.choice(EDGES) if r.random() < odd else r.choice(c) for c in columns] for _ in range(r.randint(0, 6))]
@@ -748,7 +751,7 @@ def f_import_csv(m):
 
 # ---- SQL that defines tables
 
-SQL_NAMES = ["a", "b", "c", "d", "e", "Id", "city", "Select", "key", "primary", "Unit price", 'say "hi"', "n\u00e9e", "like", "exclude", "it's", "text", "x" * 63]
+SQL_NAMES = ["a", "b", "c", "d", "e", "Id", "city", "Select", "key", "primary", "Unit price", 'say "hi"', "n\u00e9e", "like", "exclude", "it's", "text", "x" * 63, "a\ufeff"]
 SQL_TYPES = ["INTEGER", "int", "bigint", "Int8", "smallint", "TEXT", "text", "", "date", "uuid", "timestamp", "timestamp without time zone",
              "timestamp with time zone", "timestamp(3)", "numeric", "numeric(10,2)", "decimal(15)", "DECIMAL (15, 9)", "numeric(16,2)", "numeric(5,10)",
              "numeric(010,2)", "numeric(-1)", "serial", "BIGSERIAL", "varchar(80)", "character varying(20)", "double precision", "s.mood", "int[]",
@@ -895,6 +898,148 @@ def f_rejoin_many(m):
     return words, files
 
 
+# ---- references that may be missing
+
+GOOD_VALUES = {"integer": [b"0", b"1", b"7"], "date": [b"2024-02-29", b"1999-12-31", b"0001-01-01"],
+               "timestamp": [b"2024-02-29 00:00:00", b"2024-02-29 12:30:00.5", b"1999-12-31 23:59:59"],
+               "uuid": [b"00000000-0000-0000-0000-000000000001", b"00000000-0000-0000-0000-000000000002"],
+               "decimal 0": [b"0", b"1", b"-1"], "decimal 2": [b"0.00", b"1.50", b"-12.25"]}
+
+
+class LookedUp:
+    """A schema with tables that are looked up, most of them by what may be missing: `tables` has the key of each and what
+    it has beside that; `cells` rows over all attributes, in which None is missing. Mostly the design of the tables is readable,
+    the rows are legal, and nothing stands beside a missing key."""
+
+    def __init__(self, m, strange=.08, tidy=.8):
+        self.m, r = m, m.r
+        self.strange, self.tidy = strange, r.random() < tidy
+        counter, nullable = [0], set()
+
+        def new(count):
+            counter[0] += count
+            return list(range(counter[0] - count, counter[0]))
+
+        self.tables = [(new(r.choice((1, 1, 2))), new(r.randint(1, 3)))]
+        for _ in range(r.choice((1, 1, 2, 3))):
+            home_key, outside = r.choice(self.tables)
+            if not outside:
+                continue
+            own = r.sample(outside, min(len(outside), r.choice((1, 1, 2))))
+            key = own + (r.sample(home_key, 1) if r.random() < .15 else [])
+            beside = new(r.choice((0, 1, 1, 2)))
+            if r.random() < .85:
+                nullable |= {*r.sample(own, r.randint(1, len(own))), *beside}
+            self.tables.append((key, beside))
+        n = counter[0]
+        if r.random() < strange:
+            nullable ^= {r.randrange(n)}
+        place = r.sample(range(n), n)
+        self.tables = [([place[a] for a in key], [place[a] for a in beside]) for key, beside in self.tables]
+        m.nullable, m.any_names = sum(1 << place[a] for a in nullable), True
+        self.columns = [r.choice(list(GOOD_VALUES)) if r.random() < .3 else "text" for _ in range(n)]
+        self.names = r.sample(STRANGE, n) if r.random() < .3 else r.sample(NAMES, n)
+        deps = [(FD, of(key), of(beside)) for key, beside in self.tables if beside]
+        r.shuffle(deps)
+        if r.random() < strange:
+            deps.append((r.choice((FD, MVD)), m.some(n, 2, 1), m.some(n, 2, 1)))
+        self.schema = self.names, self.columns, deps
+        self.text = m.schema_text(self.schema)
+        self.schemes = [of(key) | of(beside) for key, beside in self.tables]
+        if r.random() < strange:
+            self.schemes[r.randrange(len(self.schemes))] |= 1 << r.randrange(n)
+        r.shuffle(self.schemes)
+        self.cells = self.rows()
+
+    def value(self, a):
+        """A value of an attribute, or None where it may be missing."""
+        r = self.m.r
+        if self.m.nullable >> a & 1 and r.random() < .35:
+            return None
+        if self.columns[a] == "text":
+            return r.choice((b"x", b"y", b"z", b"O'Hara", b"" if not self.m.nullable >> a & 1 and r.random() < .3 else b"x"))
+        return r.choice(GOOD_VALUES[self.columns[a]])
+
+    def rows(self):
+        """Rows that obey each table's key, unless one value is changed."""
+        r, n = self.m.r, len(self.names)
+        known, made = [{} for _ in self.tables], []
+        for _ in range(r.choice((0, 1, 3, 6, 6, 12))):
+            row = [None] * n
+            for (key, beside), found, is_main in zip(self.tables, known, [True] + [False] * n):
+                if is_main:
+                    for a in key:
+                        row[a] = self.value(a)
+                of_key = tuple(row[a] for a in key)
+                if of_key not in found:
+                    is_told = None in of_key and self.tidy and r.random() < .97
+                    found[of_key] = [None if is_told and self.m.nullable >> a & 1 else self.value(a) for a in beside]
+                for a, value in zip(beside, found[of_key]):
+                    row[a] = value
+            made.append(row)
+        if made and r.random() < self.strange:
+            a = r.randrange(n)
+            r.choice(made)[a] = self.value(a)
+        return [tuple(row) for row in made]
+
+    def plan(self):
+        return self.m.plan_text(self.names, self.schemes)
+
+    def plan_of_schemes(self):
+        """The plan without names of tables."""
+        return "".join(f"scheme {self.m.side(self.names, x)}\n" for x in self.schemes).encode()
+
+    def csv(self, rows=None, scheme=None):
+        """The rows, or those of a table, as a CSV file."""
+        body = [tuple(b"" if value is None else value for value in row) for row in (self.cells if rows is None else rows)]
+        return self.m.csv(self.names, body, scheme, self.strange / 4)
+
+
+def of(places):
+    return sum_or(1 << a for a in places)
+
+
+def by_form_or_plan(m, command, made, *rest):
+    """The words of a command over the tables of a form, or over those of a plan, and its files."""
+    if m.r.random() < .5:
+        return [*command, "plan", "s", "p", *rest], {"s": made.text, "p": made.plan()}
+    return [*command, m.r.choice(model.FORMS), "s", *rest], {"s": made.text}
+
+
+def f_optional_tables(m):
+    made, what = LookedUp(m), m.r.random()
+    if what < .1:
+        return ["report", "s"], {"s": made.text}
+    command = ["ddl"] if what < .5 else ["draw"] if what < .6 else ["sql", "migrate"]
+    return by_form_or_plan(m, command, made, *["main.orders"] * (len(command) - 1))
+
+
+def f_optional(m):
+    made = LookedUp(m)
+    into = ["into", "out"] if m.r.random() < .25 else []
+    words, files = by_form_or_plan(m, ["migrate"], made, "r", *into)
+    return words, {**files, "r": made.csv()}
+
+
+def f_optional_rejoin(m):
+    """The files of a design, mostly without the rows that miss a value of the key; some rows are left out or changed."""
+    r = m.r
+    made = LookedUp(m)
+    schema = model.read_schema(made.text, b"s")
+    files, words = {"s": made.text}, ["rejoin", "s"]
+    for k, x in enumerate(made.schemes, 1):
+        key = model.one_key(schema, x) if r.random() < .8 else 0
+        rows = [row for row in made.cells if r.random() < .9 and None not in [row[a] for a in members(key)]]
+        part = [[row[a] for a in members(x)] for row in rows]
+        if part and r.random() < .3:
+            row, a = list(r.choice(part)), r.randrange(len(members(x)))
+            row[a] = made.value(members(x)[a])
+            part.append(row)
+        files[f"f{k}"] = made.csv(part, x)
+        words.append(f"f{k}")
+    return words, files
+
+
 def f_basis(m):
     s = m.schema(1, 7)
     side = m.side(s[0], m.some(len(s[0]), 3, 0))
@@ -993,7 +1138,7 @@ def f_check_cover_canonical(m):
 TABLES = ["t", "orders", "public.addresses", "a.b.c", "a.b.c.d", "joined", "main.Joined", "x.T12", "t1x", "joined.t", "_x", "1x", "a..b",
           "", ".", "a b", 'a"b', "a;b", "t_1", "T", "x" * 63, "x" * 64, "é", "t0", "a.t", "select",
           '"a b"', 'main."two words"', '"a.b".c', '"a""b"', '"t0"', 'x."Joined"', '"joined".t', '"a"b', '"a', '""', '"é"."1".x', '"a"."b"."c"."d"',
-          '"' + "x" * 63 + '"', '"' + "x" * 64 + '"', '"a"."', '"a".', 'a."b"', '"\x01"', '"""', '""""', '"a".."b"']
+          '"' + "x" * 63 + '"', '"' + "x" * 64 + '"', '"a"."', '"a".', 'a."b"', '"\x01"', '"\ufeffa"', '"a\ufeff"', '"""', '""""', '"a".."b"']
 
 
 def f_sql(m):

@@ -445,7 +445,7 @@ def is_name(name):
         name.decode()
     except UnicodeDecodeError:
         return False
-    return 1 <= len(name) <= 63 and all(b >= 32 and b != 127 for b in name)
+    return 1 <= len(name) <= 63 and all(b >= 32 and b != 127 for b in name) and not name.startswith(b"\xef\xbb\xbf")
 
 
 # A part of a table's name and what follows it: a dot and the next part, or the end.

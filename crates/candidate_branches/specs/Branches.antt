@@ -40,8 +40,8 @@ pub record AreLackingOne (es : List Attributes) (x : Attributes) (once : List At
   pub all : (e : Attributes) (k : ℕ) → Contains es e → LacksAlone x e k → Contains once e
 
 -- a branch by evidence without a: a set within n columns without a, which may take on as many free columns as a
--- candidate may have beside its members; with the evidence that holds it, and that which lacks one member. Each member is
--- needed
+-- candidate may have beside its members; with the evidence that holds it, and that which lacks one member.
+-- Each member is needed
 pub record IsBranchWith (n most a : ℕ) (es : List Attributes) (set free : Attributes) (left : ℕ)
     (held once : List Attributes) : Type 0 where
   pub without : (e : Attributes) → Contains es e → e a ≡ false

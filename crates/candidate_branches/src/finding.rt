@@ -16,9 +16,9 @@ use candidate_sets::{MOST_CANDIDATES, TooManyCandidates};
 use dep_model::{Failure, OutOfMemory};
 use std::alloc::Global;
 
-/// The candidates for attribute `right` of evidence, of at most `most` of `width` columns, in the order of sets; or none,
-/// where there is much evidence, or more than `MOST_CANDIDATES` sets are found. Whether it gives up so is a matter of
-/// speed alone. The evidence is best given larger sets first.
+/// The candidates for attribute `right` of evidence, of at most `most` of `width` columns, in the order of
+/// sets; or none, where there is much evidence, or more than `MOST_CANDIDATES` sets are found. Whether it
+/// gives up so is a matter of speed alone. The evidence is best given larger sets first.
 pub fn candidates_of(
     alloc: Global,
     width: u8,

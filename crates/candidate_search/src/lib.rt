@@ -16,7 +16,6 @@ mod findings;
 mod learning;
 mod levels;
 mod neighbours;
-mod orders;
 mod pairs;
 mod sampling;
 mod searching;

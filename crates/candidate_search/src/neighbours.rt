@@ -3,9 +3,9 @@ ghost use Rattle.attr_sets.specs.declared.set.TheConstants.{MOST_ATTRIBUTES};
 ghost use Rattle.row_groups.specs.Interning.{count_of, width_of_rows};
 ghost use Rattle.candidate_search.specs.Pairs.{IsRowPair};
 
-use crate::orders::{all_rows, order_by};
 use attr_sets::MOST_ATTRIBUTES;
 use dep_model::OutOfMemory;
+use fd_discovery::{all_rows, order_by};
 use indexmap::IndexSet;
 use row_groups::Interned;
 use row_store::Hashing;

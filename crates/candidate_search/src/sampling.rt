@@ -17,8 +17,8 @@ use std::alloc::Global;
 // The most members of left sides for which neighbours are not looked at: it takes longer than to test them.
 const FEW_MEMBERS: u8 = 1;
 
-// Evidence to begin with: what neighbours in the orders of the columns agree on, where left sides may have some members,
-// and what is given.
+// Evidence to begin with: what neighbours in the orders of the columns agree on, where left sides may have
+// some members, and what is given.
 pub fn first_evidence(
     alloc: Global,
     codes: &Interned,

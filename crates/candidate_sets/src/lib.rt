@@ -7,9 +7,9 @@
 //! is never looked at.
 //!
 //! Promises: exactly the candidates of the evidence so far, or a refusal where there are more than
-//! 1,000,000, which at most 20 columns never have; whether one of them lies within a set. What rows obey stands against their evidence;
-//! where all candidates are obeyed they are exactly the minimal dependencies, and a candidate that
-//! is not obeyed gives more evidence.
+//! 1,000,000, which at most 20 columns never have; whether one of them lies within a set. What rows
+//! obey stands against their evidence; where all candidates are obeyed they are exactly the minimal
+//! dependencies, and a candidate that is not obeyed gives more evidence.
 #![tactic(auto)]
 
 mod adding;

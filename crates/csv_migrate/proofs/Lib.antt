@@ -1,3 +1,4 @@
 pub mod DistinctLemmas
 pub mod ProjectionLemmas
+pub mod CompleteLemmas
 pub mod MigrationLemmas

@@ -1,5 +1,5 @@
 -- The ordered projection of rows, by the first rows of their groups; and the columns of its table.
-use Rattle.std.proofs.Common.{inl, inr, ◌≡◌, ◌+◌, ◌<◌, ◌≤◌, ℕ, zero, suc, true, false, List, [], ◌∷◌, ◌++◌, length, get_or, map, take, sym, ap, ◌∙◌, arith, add-one}
+use Rattle.std.proofs.Common.{inl, inr, ◌≡◌, ◌+◌, ◌<◌, ◌≤◌, ℕ, zero, suc, true, false, List, [], ◌∷◌, ◌++◌, length, get_or, map, take, sym, ap, subst, ◌∙◌, arith, add-one}
 use Rattle.std.specs.Prelude.{All, Some, slice_get}
 use Rattle.std.proofs.lemmas.Bool.{cases_Bool}
 use Rattle.std.proofs.lemmas.List.{map-append, length-map, length-append, take_all}
@@ -13,7 +13,7 @@ use Rattle.dep_model.proofs.SchemeLemmas.{members_below-member, members_below-ou
 use Rattle.dep_model.proofs.JoinLemmas.{project_tuple-same, agree-from_projections}
 use Rattle.schema_printer.specs.Printing.{members_from}
 use Rattle.schema_printer.proofs.MemberLemmas.{names_inside, names_outside}
-use Rattle.row_groups.specs.Numberings.{number_at, AreGroups, AreFirsts}
+use Rattle.row_groups.specs.Numberings.{AreGroups, AreFirsts}
 use Rattle.row_store.specs.Rows.{row_at}
 use Rattle.dep_model.proofs.ListLemmas.{same_default}
 use Rattle.csv_migrate.proofs.DistinctLemmas.{AreClasses, distinct_values}
@@ -22,7 +22,7 @@ use Rattle.csv_migrate.proofs.DistinctLemmas.{AreClasses, distinct_values}
 abbrev pub projected_row : Attributes → Relation → ℕ → Tuple
 projected_row scheme rows i = project_tuple scheme (row_at rows i)
 
-row_width : (n : ℕ) (rows : Relation) (i : ℕ) → IsOver n rows → i < length rows → length (row_at rows i) ≡ n
+pub row_width : (n : ℕ) (rows : Relation) (i : ℕ) → IsOver n rows → i < length rows → length (row_at rows i) ≡ n
 row_width n rows i over l = over i [] l
 
 classes_of : (n : ℕ) (rows : Relation) (scheme : Attributes) (numbers : List ℕ) → IsOver n rows
@@ -92,28 +92,25 @@ column_count x names =
     ap (λ (l : List (List ℕ)). length (members_from x 0 l)) (sym (take_all (length names) names (omega arith)))
     ∙ names_counted x names (length names) (omega arith)
 
--- ---- what is made of the first rows of the groups
-pub table_rows : (n : ℕ) (rows : Relation) (x : Attributes) (numbers firsts chosen : List ℕ)
-    → IsOver n rows → AreGroups rows x numbers → AreFirsts numbers firsts → chosen ≡ firsts
-    → map (projected_row x rows) chosen ≡ ordered_projection x rows
-table_rows n rows x numbers firsts chosen over groups are same =
-    ap (map (projected_row x rows)) same ∙ first_projections n rows x numbers firsts over groups are
-
+-- ---- the first rows of the groups
 -- they are there, and have a value for each column
-pub table_even : (names : List (List ℕ)) (rows : Relation) (x : Attributes) (numbers firsts chosen : List ℕ)
-    (columns : List (List ℕ)) → IsOver (length names) rows → AreGroups rows x numbers
-    → AreFirsts numbers firsts → chosen ≡ firsts → columns ≡ members_from x 0 names
-    → All (λ i. (i < length rows) × (length (projected_row x rows i) ≡ length columns)) chosen
-table_even names rows x numbers firsts chosen columns over groups are same is_columns g d l =
-    let low : g < length firsts = omega (arith, l, ap length same) in
-    let here : get_or chosen g d ≡ number_at firsts g =
-    same_default chosen g d 0 l ∙ ap (λ (xs : List ℕ). number_at xs g) same in
-    let within : get_or chosen g d < length rows = omega (arith, here, are.within g low, groups.one_each) in (
+pub firsts_even : (names : List (List ℕ)) (rows : Relation) (x : Attributes) (numbers firsts : List ℕ)
+    (columns : List (List ℕ)) → IsOver (length names) rows → AreGroups rows x numbers → AreFirsts numbers firsts
+    → columns ≡ members_from x 0 names
+    → All (λ i. (i < length rows) × (length (projected_row x rows i) ≡ length columns)) firsts
+firsts_even names rows x numbers firsts columns over groups are is_columns g d l =
+    let within : get_or firsts g d < length rows = omega (arith, same_default firsts g d 0 l, are.within g l, groups.one_each) in (
       within,
-      length-project_tuple x (row_at rows (get_or chosen g d))
-          ∙ ap (count_below x) (row_width (length names) rows (get_or chosen g d) over within)
+      length-project_tuple x (row_at rows (get_or firsts g d))
+          ∙ ap (count_below x) (row_width (length names) rows (get_or firsts g d) over within)
           ∙ sym (ap length is_columns ∙ column_count x names),
     )
+
+pub firsts_there : (rows : Relation) (x : Attributes) (numbers firsts chosen : List ℕ) → AreGroups rows x numbers
+    → AreFirsts numbers firsts → chosen ≡ firsts → All (λ i. i < length rows) chosen
+firsts_there rows x numbers firsts chosen groups are same =
+    subst (All (λ i. i < length rows)) (sym same)
+    (λ g d l. omega (arith, same_default firsts g d 0 l, are.within g l, groups.one_each))
 
 -- ---- whether values of a scheme's attributes may be missing
 pub flag_taken : (nullable x : Attributes) (n : ℕ) → x n ≡ true

@@ -4,4 +4,5 @@ pub mod HeaderLemmas
 pub mod QuoteLemmas
 pub mod ReadingLemmas
 pub mod UniqueRows
+pub mod PrintedTexts
 pub mod PrintedRows

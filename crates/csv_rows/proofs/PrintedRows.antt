@@ -1,23 +1,14 @@
--- Printed rows: the records of the printed text, the columns of its header, and the rows.
+-- Printed rows: the columns of the header of the printed text, and the rows.
 use Rattle.std.proofs.Common.{◌≡◌, ◌+◌, ◌<◌, ◌≤◌, ◌==◌, ◌&&◌, ◌||◌, ℕ, zero, suc, Bool, true, false, nat_lt, nat_eq, List, [], ◌∷◌, ◌++◌, length, map, Option, Some, None, Result, Ok, IsTrue, slice_index_or, get_or, refl, sym, ap, subst, ◌∙◌, arith}
 use Rattle.std.specs.Prelude.{All, AllPairs}
-use Rattle.std.specs.List.{position_or_len, range_with_len, list_any}
-use Rattle.std.specs.Char.{is_ascii_alphabetic}
+use Rattle.std.specs.List.{position_or_len, range_with_len}
 use Rattle.std.proofs.Math.ListN.{get_or-map}
-use Rattle.std.proofs.lemmas.Bool.{false≢true}
 use Rattle.std.proofs.lemmas.Bool.Decides.{nat_tests}
-use Rattle.std.specs.List.{fold}
-use Rattle.std.proofs.lemmas.List.Sums.{fold-append}
-use Rattle.std.proofs.lemmas.List.{append_cancel_right, append_assoc, append-nil, length-append, length-map, ext_get_or}
+use Rattle.std.proofs.lemmas.List.{append_assoc, append-nil, length-append, length-map, ext_get_or}
 use Rattle.std.proofs.lemmas.List.FromFn.{length-range_with_len, get_or-range_with_len}
 use Rattle.std.proofs.lemmas.List.Sums.{position_or_len_is}
 use Rattle.attr_sets.specs.Attributes.{Attributes, IsSubset, below}
-use Rattle.csv.specs.Machine.{next_record}
-use Rattle.csv.specs.Reading.{records_from, default_config, strip_bom}
-use Rattle.csv.specs.Writing.{default_writer, row_text, field_text, fields_text, needs_byte, read_back}
-use Rattle.csv.specs.declared.parser.State.TheVariants as st
-use Rattle.csv.proofs.RoundTrip.{read-write}
-use Rattle.schema_model.specs.Names.{is_bare_name, same_name}
+use Rattle.schema_model.specs.Names.{IsName, same_name}
 use Rattle.dep_model.specs.Projections.{members_below}
 use Rattle.schema_model.specs.Schemas.{names_of, width_of, attribute_named, types_of, nullable_of}
 use Rattle.dep_model.specs.Tuples.{Tuple, Relation, IsOver, value_at}
@@ -28,121 +19,15 @@ use Rattle.schema_model.proofs.NameLemmas.{attribute_named-append}
 use Rattle.csv_rows.proofs.HeaderLemmas.{named_after}
 use Rattle.dep_model.proofs.ListLemmas.{range_more, same_default}
 use Rattle.csv_rows.proofs.ReadingLemmas.{whole_count}
-use Rattle.csv_rows.proofs.RecordLemmas.{one_more, no_more}
 use Rattle.csv_rows.specs.Columns.{with_columns, attribute_of_column, columns_of_header, columns_from, IsHeaderOf, ◌>>=◌}
 use Rattle.csv_rows.specs.Reading.{value_of, tuple_of, ClosedRowOf, AreFirstRows, RowsOf, TableOf}
-use Rattle.csv_rows.specs.Quotes.{next_place, is_quoted, ends_within_quotes, open_record}
-use Rattle.csv_rows.specs.declared.quotes.Place.{Place}
-use Rattle.csv_rows.specs.declared.quotes.Place.TheVariants as place
-use Rattle.csv_rows.proofs.QuoteLemmas.{ended}
+use Rattle.csv_rows.proofs.PrintedTexts.{printed_closed, printed_records}
+use Rattle.csv_rows.specs.Quotes.{open_record}
 use Rattle.csv_rows.specs.Records.{records_of}
-use Rattle.csv_text.specs.Rows.{rows_only, rows_text}
+use Rattle.csv_text.specs.Rows.{rows_text}
 use Rattle.csv_rows.specs.declared.reading.TheConstants.{MOST_ROWS}
 use Rattle.csv_rows.specs.declared.refusal.RowRefusal.{RowRefusal}
 use Rattle.attr_sets.proofs.AttributesLemmas.{same_at}
-
--- ---- the records of the text
-back_same : (row : List (List ℕ)) → 0 < length row → read_back row ≡ row
-back_same [] not_empty = absurd (omega (arith, not_empty))
-back_same (x ∷ rest) not_empty = refl
-
-nothing_left : next_record default_config st.StartRecord [] [] [] ≡ None
-unfolding next_record
-nothing_left = refl
-
-rows_back : (rows : Relation) → All (λ row. 0 < length row) rows
-    → records_from default_config (length (rows_only rows) + 1) st.StartRecord (rows_only rows) ≡ rows
-rows_back [] not_empty = no_more st.StartRecord [] nothing_left
-rows_back (row ∷ rows) not_empty =
-    one_more st.StartRecord (row_text default_writer row ++ rows_only rows)
-    (read_back row, st.StartRecord, rows_only rows) refl (read-write row (rows_only rows))
-    ∙ ap (λ (r : Tuple). r ∷ records_from default_config (length (rows_only rows) + 1) st.StartRecord (rows_only rows)) (back_same row (not_empty 0 [] (omega arith)))
-    ∙ ap (λ (rest : Relation). row ∷ rest) (rows_back rows (λ k d h. not_empty (suc k) d (omega (arith, h))))
-
--- a text that does not begin as a byte-order mark does is left as it is
-no_mark : (b : ℕ) (rest : List ℕ) → (b == 239) ≡ false → strip_bom (b ∷ rest) ≡ b ∷ rest
-unfolding strip_bom
-no_mark b [] other = refl
-no_mark b (c ∷ []) other = refl
-no_mark b (c ∷ d ∷ rest) other = rw other refl
-
--- the first byte of a row whose first value is not empty is that of the value, or a quote
-abbrev Begins : ℕ → List ℕ → Type 0
-Begins c text = (b : ℕ) × (rest : List ℕ) × (text ≡ b ∷ rest) × ((b == 239) ≡ false)
-
-field_begins : (c : ℕ) (cs : List ℕ) → (c == 239) ≡ false → Begins c (field_text default_writer (c ∷ cs))
-field_begins c cs other = by (list_any (needs_byte default_writer) (c ∷ cs)) refl
-  where
-    by : (needs : Bool) → list_any (needs_byte default_writer) (c ∷ cs) ≡ needs
-        → Begins c (field_text default_writer (c ∷ cs))
-    by true e = rw e (34, _, refl, refl)
-    by false e = rw e (c, cs, refl, other)
-
-text_begins : (c : ℕ) (field more : List ℕ) → Begins c field → Begins c (field ++ more)
-text_begins c field more (b, rest, is, other) = (b, rest ++ more, ap (λ (t : List ℕ). t ++ more) is, other)
-
-row_begins : (c : ℕ) (cs : List ℕ) (values : List (List ℕ)) → (c == 239) ≡ false
-    → Begins c (row_text default_writer ((c ∷ cs) ∷ values))
-row_begins c cs values other =
-    text_begins c _ _ (text_begins c _ (fields_text default_writer values) (field_begins c cs other))
-
-strip_bom-none : (c : ℕ) (text : List ℕ) → Begins c text → strip_bom text ≡ text
-strip_bom-none c text (b, rest, is, other) = subst (λ (t : List ℕ). strip_bom t ≡ t) (sym is) (no_mark b rest other)
-
-second_of : (a b c d : Bool) → (((a && b) && c) && d) ≡ true → b ≡ true
-second_of true true c d e = refl
-second_of true false c d e = e
-second_of false b c d e = absurd (false≢true e)
-
-letter_is : (c : ℕ) → is_ascii_alphabetic c ≡ true → (c == 239) ≡ false
-letter_is c e = grind (arith, nat_tests, e)
-
-name_begins : (name : List ℕ) → IsTrue (is_bare_name name)
-    → (c : ℕ) × (cs : List ℕ) × (name ≡ c ∷ cs) × ((c == 239) ≡ false)
-name_begins [] proper = cc
-name_begins (c ∷ cs) proper = (c, cs, refl, letter_is c (second_of _ _ _ _ proper))
-
-text_unmarked : (names : List (List ℕ)) (rows : Relation) → 0 < length names
-    → All (λ name. IsTrue (is_bare_name name)) names → strip_bom (rows_text names rows) ≡ rows_text names rows
-text_unmarked [] rows not_empty proper = absurd (omega (arith, not_empty))
-text_unmarked (name ∷ names) rows not_empty proper =
-    let (c, cs, is, other) = name_begins name (proper 0 [] (omega arith)) in
-    let begins : Begins c (row_text default_writer (name ∷ names)) =
-    subst (λ (n : List ℕ). Begins c (row_text default_writer (n ∷ names))) (sym is) (row_begins c cs names other) in
-    strip_bom-none c _ (text_begins c _ (rows_only rows) begins)
-
-pub printed_records : (names : List (List ℕ)) (rows : Relation) → 0 < length names
-    → All (λ name. IsTrue (is_bare_name name)) names → All (λ row. 0 < length row) rows
-    → records_of (rows_text names rows) ≡ names ∷ rows
-printed_records names rows not_empty proper wide =
-    ap (λ (t : List ℕ). records_from default_config (length t + 1) st.StartRecord t) (text_unmarked names rows not_empty proper)
-    ∙ rows_back (names ∷ rows) (first wide)
-  where
-    first : All (λ row. 0 < length row) rows → All (λ row. 0 < length row) (names ∷ rows)
-    first all zero d h = not_empty
-    first all (suc k) d h = all k d (omega (arith, h))
-
--- ---- no quote of the text is open
--- the bytes of a record that is read, up to the text after it, lead between two records
-row_closed : (row : List (List ℕ)) → fold next_place place.BetweenRecords (row_text default_writer row) ≡ place.BetweenRecords
-row_closed row =
-    let (before, all, end) = ended (row_text default_writer row ++ 10 ∷ []) st.StartRecord [] [] (read_back row, st.StartRecord, 10 ∷ []) tt
-    (read-write row (10 ∷ [])) (omega arith) in
-    ap (λ (t : List ℕ). fold next_place place.BetweenRecords t) (append_cancel_right (row_text default_writer row) before (10 ∷ []) all) ∙ end
-
-rows_closed : (rows : Relation) → fold next_place place.BetweenRecords (rows_only rows) ≡ place.BetweenRecords
-rows_closed [] = refl
-rows_closed (row ∷ rows) =
-    fold-append next_place place.BetweenRecords (row_text default_writer row) (rows_only rows)
-    ∙ ap (λ (p : Place). fold next_place p (rows_only rows)) (row_closed row) ∙ rows_closed rows
-
-pub printed_closed : (names : List (List ℕ)) (rows : Relation) → 0 < length names
-    → All (λ name. IsTrue (is_bare_name name)) names → open_record (rows_text names rows) ≡ None
-printed_closed names rows not_empty proper =
-    let none : ends_within_quotes (rows_text names rows) ≡ false =
-    ap (λ (t : List ℕ). is_quoted (fold next_place place.BetweenRecords t)) (text_unmarked names rows not_empty proper)
-    ∙ ap is_quoted (rows_closed (names ∷ rows)) in
-    rw none refl
 
 -- ---- the columns of the header
 one_column_more : (n : ℕ) → range_with_len 0 (suc n) ≡ range_with_len 0 n ++ n ∷ []
@@ -245,18 +130,18 @@ row_is s row t size within_limit fits =
           subst (FitsColumn column (nullable_of s k)) (sym (value_is n k t small)) (fits k column type),
     )
 
-pub printed_back : (s : Schema) (rows : Relation) → All (λ name. IsTrue (is_bare_name name)) (names_of s)
+pub printed_back : (s : Schema) (rows : Relation) → All IsName (names_of s)
     → IsOver (width_of s) rows → FitsColumns s rows → length rows ≤ MOST_ROWS
     → RowsOf s (rows_text (names_of s) rows) (Ok rows)
-printed_back s rows proper over fits within_limit =
+printed_back s rows named over fits within_limit =
     let n = width_of s in
     let names = names_of s in
     let columns = range_with_len 0 n in
     let wide : All (λ row. 0 < length row) rows = λ k d h. omega (arith, over k d h, s.valid.names_not_empty) in
     let records : records_of (rows_text names rows) ≡ names ∷ rows =
-    printed_records names rows s.valid.names_not_empty proper wide in
+    printed_records names rows s.valid.names_not_empty named wide in
     let header : IsHeaderOf n names names (Ok columns) = (own_columns names s.valid.names_differ, all_named n) in
-    let closed : open_record (rows_text names rows) ≡ None = printed_closed names rows s.valid.names_not_empty proper in
+    let closed : open_record (rows_text names rows) ≡ None = printed_closed names rows s.valid.names_not_empty named in
     let first : AreFirstRows s columns None rows rows = record {
       within = omega arith;
       each =

@@ -1,8 +1,8 @@
 //! Laws of what CSV texts mean.
 
-ghost use Rattle.std.specs.Prelude.{◌≡◌, ◌≤◌, List, ℕ, length, All, IsTrue, Result, Ok};
+ghost use Rattle.std.specs.Prelude.{◌≡◌, ◌≤◌, List, ℕ, length, All, Result, Ok};
 ghost use Rattle.column_values.specs.Values.{FitsColumns};
-ghost use Rattle.schema_model.specs.Names.{is_bare_name};
+ghost use Rattle.schema_model.specs.Names.{IsName};
 ghost use Rattle.schema_model.specs.Schemas.{names_of, width_of};
 ghost use Rattle.dep_model.specs.Tuples.{Relation, IsOver};
 ghost use Rattle.schema_model.specs.Schemas.{Schema};
@@ -20,10 +20,10 @@ pub fn one_reading()
         → PartOf s text one → PartOf s text other → one ≡ other }
 {}
 
-/// What is printed of rows is the text of these rows, where they fit the columns and are no
-/// more than a file may have.
+/// What is printed of rows is the text of these rows, whatever the names, where the rows fit the columns
+/// and are no more than a file may have.
 pub fn printed_rows_are_read_back()
-    ensures law { (s : Schema) (rows : Relation) → All (λ name. IsTrue (is_bare_name name)) (names_of s)
+    ensures law { (s : Schema) (rows : Relation) → All IsName (names_of s)
         → IsOver (width_of s) rows → FitsColumns s rows → length rows ≤ MOST_ROWS
         → RowsOf s (rows_text (names_of s) rows) (Ok rows) }
 {}

@@ -1,28 +1,29 @@
--- The lines of comments before a statement are passed over.
-use Rattle.std.proofs.Common.{◌≡◌, ◌+◌, ℕ, Bool, true, false, not, None, Some, Option, All, List, [], ◌∷◌, ◌++◌, length, filter, refl, sym, ap, subst, ◌∙◌, arith, append_assoc, length-append}
-use Rattle.std.specs.Prelude.{codes, if◌then◌else◌, Vec}
-use Rattle.std.specs.declared.alloc.Global.{Global}
+-- The remarks before a statement are passed over.
+use Rattle.std.proofs.Common.{◌≡◌, ◌+◌, ℕ, Bool, true, false, not, All, List, [], ◌∷◌, ◌++◌, length, get_or, map, refl, sym, ap, subst, ◌∙◌, arith, append_assoc, length-append}
+use Rattle.std.specs.Prelude.{codes, if◌then◌else◌, is_some}
 use Rattle.std.specs.List.{flat_map, list_all, list_any}
 use Rattle.std.proofs.lemmas.Bool.{and_from, not_from_false, or_parts}
-use Rattle.std.proofs.lemmas.List.Elements.{All-head, All-tail}
+use Rattle.std.proofs.lemmas.List.Elements.{All-cons, All-head, All-map, All-nil, All-tail}
 use Rattle.attr_sets.specs.Attributes.{Attributes}
 use Rattle.attr_sets.specs.Sets.{attributes}
-use Rattle.attr_sets.specs.declared.set.AttrSet.{AttrSet}
 use Rattle.schema_model.specs.Names.{IsName}
 use Rattle.schema_model.proofs.PlainLemmas.{IsPlain, name_plain, plain_both, quoted_plain}
-use Rattle.dep_model.specs.Plans.{schemes_of}
 use Rattle.schema_model.specs.Schemas.{names_of}
 use Rattle.schema_model.specs.Schemas.{Schema}
 use Rattle.schema_printer.specs.Printing.{members_from}
 use Rattle.schema_printer.proofs.MemberLemmas.{members_each}
-use Rattle.sql_syntax.specs.Names.{comma_list, name_list, quoted_name, separator}
+use Rattle.sql_syntax.specs.Names.{attribute_names, comma_list, quoted_name, separator}
+use Rattle.sql_syntax.specs.Printing.{names_text}
+use Rattle.sql_syntax.specs.Statements.{remark, script_text, statement_text}
+use Rattle.sql_syntax.proofs.NameLemmas.{names_listed}
 use Rattle.sql_lexemes.specs.Bytes.{is_line_feed}
 use Rattle.sql_lexemes.specs.Pieces.{front_piece}
 use Rattle.sql_lexemes.specs.Statements.{Scan, after_gap, led_by, statements_after}
 use Rattle.sql_lexemes.specs.declared.dialect.Dialect.{Dialect}
 use Rattle.sql_lexemes.specs.declared.piece.Before.{Before}
 use Rattle.sql_lexemes.specs.declared.piece.Piece.TheVariants as piece
-use Rattle.ddl_text.specs.Ddl.{comment, is_empty, is_never_missing, key_comment, left_out_line}
+use Rattle.ddl_text.specs.Ddl.{is_empty, left_out_keys, left_out_words, remarks_made, said_of}
+use Rattle.ddl_text.specs.Designs.{known_keys}
 use Rattle.ddl_text.specs.declared.table.TableDesign.{TableDesign}
 use Rattle.ddl_pieces.proofs.Cutting.{IsPassed, blanks_passed, skipped}
 use Rattle.ddl_pieces.proofs.Fronts.{prefix_past}
@@ -108,48 +109,37 @@ listed_plain (name ∷ names) all =
     (quoted_plain name (name_plain name (All-head IsName name names all)))
     (further_plain names (All-tail IsName name names all))
 
--- ---- comments
-abbrev ending : List ℕ
-ending = codes ") is left out: missing values are not compared"
+-- ---- remarks
+words_plain : (s : Schema) → All IsName (names_of s) → (key : Attributes) → IsPlain (left_out_words s key)
+words_plain s names key =
+    plain_both (names_text (attribute_names s key)) (codes ") is left out: missing values are not compared")
+    (subst IsPlain (sym (names_listed s key))
+    (listed_plain (members_from key 0 (names_of s)) (members_each IsName key 0 (names_of s) names))) refl
 
--- what a comment says of a key that is left out
-abbrev said : Schema → Attributes → List ℕ
-said s key = codes " UNIQUE (" ++ (name_list s key ++ ending)
-
-left_out : (s : Schema) (key : Attributes) → left_out_line s key ≡ comment_line (said s key)
-unfolding left_out_line
-left_out s key =
-    ap (λ (t : List ℕ). codes "-- UNIQUE (" ++ t)
-    (sym (append_assoc (name_list s key) ending (10 ∷ [])))
-
-said_plain : (s : Schema) (key : Attributes) → All IsName (names_of s) → IsPlain (said s key)
-said_plain s key names =
-    plain_both (name_list s key) ending
-    (listed_plain (members_from key 0 (names_of s)) (members_each IsName key 0 (names_of s) names)) refl
-
-left_out_passed : (d : Dialect) (scan : Scan) (s : Schema) (keys : List Attributes) (rest : List ℕ)
-    → All IsName (names_of s)
-    → IsPassed d scan (flat_map (left_out_line s) keys) rest
-left_out_passed d scan s [] rest names = none_passed d scan rest
-left_out_passed d scan s (key ∷ keys) rest names =
-    both_passed d scan (left_out_line s key) (flat_map (left_out_line s) keys) rest
-    (subst (λ (t : List ℕ). IsPassed d scan t (flat_map (left_out_line s) keys ++ rest)) (sym (left_out s key))
-    (line_passed d scan (said s key) (flat_map (left_out_line s) keys ++ rest) (said_plain s key names)))
-    (λ next. left_out_passed d next s keys rest names)
-
-keys_passed : (d : Dialect) (scan : Scan) (s : Schema) (keys : Option (Vec AttrSet Global))
-    (rest : List ℕ) → All IsName (names_of s) → IsPassed d scan (key_comment s keys) rest
-keys_passed d scan s None rest names =
-    line_passed d scan (codes " further keys are not looked for") rest refl
-keys_passed d scan s (Some keys) rest names =
-    left_out_passed d scan s (filter (λ key. not (is_never_missing s key)) (schemes_of keys.items))
-    rest names
-
-pub comment_passed : (d : Dialect) (scan : Scan) (s : Schema) (table : TableDesign) (rest : List ℕ)
-    → All IsName (names_of s) → IsPassed d scan (comment s table) rest
-comment_passed d scan s table rest names = by_key (is_empty (attributes table.key))
+said_plain : (s : Schema) (table : TableDesign) → All IsName (names_of s) → All IsPlain (said_of s table)
+said_plain s table names = by_key (is_empty (attributes table.key))
   where
+    by_known : (known : Bool)
+        → All IsPlain (if known then map (left_out_words s) (left_out_keys s (known_keys table.other_keys)) else codes "further keys are not looked for" ∷ [])
+    by_known true =
+        All-map IsPlain (left_out_words s) (left_out_keys s (known_keys table.other_keys))
+        (λ k default within. words_plain s names (get_or (left_out_keys s (known_keys table.other_keys)) k default))
+    by_known false = All-cons IsPlain (codes "further keys are not looked for") [] refl (All-nil IsPlain)
+
     by_key : (empty : Bool)
-        → IsPassed d scan (if empty then codes "-- at most one row\n" else key_comment s table.other_keys) rest
-    by_key true = line_passed d scan (codes " at most one row") rest refl
-    by_key false = keys_passed d scan s table.other_keys rest names
+        → All IsPlain (if empty then codes "at most one row" ∷ [] else if is_some table.other_keys then map (left_out_words s) (left_out_keys s (known_keys table.other_keys)) else codes "further keys are not looked for" ∷ [])
+    by_key true = All-cons IsPlain (codes "at most one row") [] refl (All-nil IsPlain)
+    by_key false = by_known (is_some table.other_keys)
+
+words_passed : (d : Dialect) (scan : Scan) (words : List (List ℕ)) (rest : List ℕ) → All IsPlain words
+    → IsPassed d scan (script_text (map remark words)) rest
+unfolding statement_text
+words_passed d scan [] rest plain = none_passed d scan rest
+words_passed d scan (first ∷ words) rest plain =
+    both_passed d scan (comment_line (32 ∷ first)) (script_text (map remark words)) rest
+    (line_passed d scan (32 ∷ first) (script_text (map remark words) ++ rest) (All-head IsPlain first words plain))
+    (λ next. words_passed d next words rest (All-tail IsPlain first words plain))
+
+pub remarks_passed : (d : Dialect) (scan : Scan) (s : Schema) (table : TableDesign) (rest : List ℕ)
+    → All IsName (names_of s) → IsPassed d scan (script_text (remarks_made s table)) rest
+remarks_passed d scan s table rest names = words_passed d scan (said_of s table) rest (said_plain s table names)

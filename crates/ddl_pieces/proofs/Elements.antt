@@ -1,23 +1,24 @@
 -- The pieces of a statement stand right, and close the brackets that they open.
-use Rattle.std.proofs.Common.{◌≡◌, ◌+◌, ◌<◌, ℕ, Bool, true, false, Some, None, Option, All, IsTrue, List, [], ◌∷◌, ◌++◌, length, get_or, map, filter, refl, sym, ap, subst, ◌∙◌, ⊎_elim, arith}
-use Rattle.std.specs.Prelude.{codes, if◌then◌else◌, slice_get}
+use Rattle.std.proofs.Common.{◌≡◌, ◌+◌, ◌<◌, ℕ, Bool, true, false, All, IsTrue, List, [], ◌∷◌, ◌++◌, length, get_or, map, filter, refl, sym, ap, subst, ◌∙◌, ⊎_elim, arith}
+use Rattle.std.specs.Prelude.{codes, if◌then◌else◌}
 use Rattle.std.proofs.lemmas.Bool.{cases_lt}
 use Rattle.std.proofs.lemmas.List.{get_or_past}
 use Rattle.std.proofs.lemmas.List.Elements.{All-append, All-cons, All-get_or, All-head, All-map, All-nil, All-tail}
 use Rattle.attr_sets.specs.Attributes.{Attributes}
 use Rattle.attr_sets.specs.Sets.{attributes}
-use Rattle.schema_model.specs.Columns.{is_column_type}
 use Rattle.dep_model.specs.Projections.{members_below}
-use Rattle.schema_model.specs.Schemas.{names_of, nullable_of, types_of, width_of}
+use Rattle.schema_model.specs.Schemas.{names_of, types_of, width_of}
 use Rattle.schema_model.specs.declared.column_type.ColumnType.{ColumnType}
 use Rattle.schema_model.specs.declared.column_type.ColumnType.TheVariants as type
 use Rattle.schema_model.specs.Schemas.{Schema}
 use Rattle.schema_printer.specs.Printing.{members_from}
 use Rattle.sql_lexemes.specs.declared.dialect.Dialect.{Dialect}
-use Rattle.ddl_text.specs.Ddl.{is_empty, is_never_missing}
+use Rattle.sql_syntax.specs.Names.{quoted_name}
+use Rattle.ddl_text.specs.Ddl.{is_empty, is_never_missing, elements_made}
 use Rattle.ddl_text.specs.Designs.{known_keys}
 use Rattle.ddl_text.specs.declared.table.TableDesign.{TableDesign}
-use Rattle.ddl_pieces.specs.Pieces.{TextPiece, blank, column_pieces, columns_pieces, create_pieces, elements_pieces, gap, is_sound_type, key_pieces, keys_pieces, lines_after, lines_pieces, list_pieces, mark, name_pieces, names_after, not_null, quoted_name_piece, reference_pieces, references_pieces, referred, text_of, type_pieces, unique_pieces, word}
+use Rattle.ddl_pieces.specs.Pieces.{TextPiece, blank, create_pieces, element_pieces, gap, is_sound_type, lines_after, lines_pieces, mark, not_null, quoted_name_piece, text_of, type_pieces, word}
+use Rattle.ddl_pieces.proofs.Designed.{column_pieces, columns_pieces, elements_pieces, elements_same, key_pieces, keys_pieces, list_pieces, name_pieces, names_after, nullable_in, reference_pieces, references_pieces, unique_pieces, valid_type}
 use Rattle.ddl_pieces.proofs.Cutting.{AreRight, depth_append, depth_past, right_append}
 use Rattle.ddl_pieces.proofs.Fronts.{IsEmptyOrParting, closes, name_then, opens, parts, quoted_right, word_right, word_then}
 use Rattle.ddl_pieces.proofs.Types.{IsSound, type_depth, type_right}
@@ -34,16 +35,14 @@ AreSound d s = All (λ column. IsTrue (is_sound_type d column)) (types_of s)
 -- ---- columns
 type_at : (d : Dialect) (s : Schema) (k : ℕ) → AreSound d s
     → IsSound d (get_or (types_of s) k type.Text)
-type_at d s k sound = ⊎_elim
-    (λ (here : k < length (types_of s)). record {
-      sound = All-get_or (λ column. IsTrue (is_sound_type d column)) (types_of s) k type.Text here sound;
-      valid = All-get_or (λ column. IsTrue (is_column_type column)) (types_of s) k type.Text here s.typed.each;
-    })
-    (λ past. subst (IsSound d) (sym (get_or_past (types_of s) k type.Text past)) text)
-    (cases_lt k (length (types_of s)))
-  where
-    text : IsSound d type.Text
-    text = record { sound = refl; valid = refl }
+type_at d s k sound = record {
+  sound = ⊎_elim
+      (λ (here : k < length (types_of s)).
+      All-get_or (λ column. IsTrue (is_sound_type d column)) (types_of s) k type.Text here sound)
+      (λ past. subst (λ (column : ColumnType). IsTrue (is_sound_type d column)) (sym (get_or_past (types_of s) k type.Text past)) refl)
+      (cases_lt k (length (types_of s)));
+  valid = valid_type s k;
+}
 
 abbrev missing : Bool → List TextPiece
 missing nullable = if nullable then [] else not_null
@@ -64,8 +63,8 @@ missing_depth : (nullable : Bool) (n : ℕ) → depth_past n (missing nullable) 
 missing_depth true n = refl
 missing_depth false n = refl
 
-column_is : (d : Dialect) (s : Schema) → AreSound d s → (k : ℕ) → IsElement d (column_pieces s k)
-column_is d s sound k = record {
+column_is : (d : Dialect) (s : Schema) → AreSound d s → (nullables : Attributes) (k : ℕ) → IsElement d (column_pieces s nullables k)
+column_is d s sound nullables k = record {
   right = λ rest parted. name_then d (get_or (names_of s) k []) (type_pieces column ++ missing nullable) rest
       (right_append d (type_pieces column) (missing nullable) rest
       (type_right d column (text_of (missing nullable) ++ rest) is (missing_parted nullable rest parted))
@@ -79,7 +78,7 @@ column_is d s sound k = record {
     column = get_or (types_of s) k type.Text
 
     nullable : Bool
-    nullable = nullable_of s k
+    nullable = nullables k
 
     is : IsSound d column
     is = type_at d s k sound
@@ -174,10 +173,6 @@ reference_is d s other = record {
     key : List TextPiece
     key = list_pieces s (attributes other.key)
 
-referred_is : (d : Dialect) (s : Schema) (found : Option TableDesign) → IsElement d (referred s found)
-referred_is d s None = record { right = λ rest parted. tt; depth = λ n. refl }
-referred_is d s (Some other) = reference_is d s other
-
 -- ---- elements
 mapped : (d : Dialect) {X : Type 0} (f : X → List TextPiece) → ((x : X) → IsElement d (f x))
     → (xs : List X)
@@ -211,9 +206,10 @@ elements_are d s tables table sound =
     All-append (IsElement d) (columns_pieces s table ++ keys_pieces s table)
     (references_pieces s tables table)
     (All-append (IsElement d) (columns_pieces s table) (keys_pieces s table)
-    (mapped d (column_pieces s) (column_is d s sound) (members_below (width_of s) (attributes table.scheme)))
+    (mapped d (column_pieces s (nullable_in s table)) (column_is d s sound (nullable_in s table))
+    (members_below (width_of s) (attributes table.scheme)))
     (keys_are d s table))
-    (mapped d (λ j. referred s (slice_get tables j)) (λ j. referred_is d s (slice_get tables j))
+    (mapped d (λ j. reference_pieces s (get_or tables j table)) (λ j. reference_is d s (get_or tables j table))
     table.refs.items)
 
 -- ---- lines
@@ -268,8 +264,17 @@ lines_depth d (element ∷ elements) n are =
 abbrev last : List TextPiece
 last = gap (10 ∷ []) ∷ mark 41 ∷ []
 
+-- the elements that the syntax has
+made_are : (d : Dialect) (s : Schema) (tables : List TableDesign) (table : TableDesign) → AreSound d s
+    → All (IsElement d) (map element_pieces (elements_made s tables table))
+made_are d s tables table sound =
+    subst (All (IsElement d)) (sym (elements_same s tables table)) (elements_are d s tables table sound)
+
+abbrev created : Schema → List TableDesign → TableDesign → List TextPiece
+created s tables table = create_pieces (quoted_name table.name) (elements_made s tables table)
+
 pub create_right : (d : Dialect) (s : Schema) (tables : List TableDesign) (table : TableDesign)
-    (rest : List ℕ) → AreSound d s → AreRight d (create_pieces s tables table) rest
+    (rest : List ℕ) → AreSound d s → AreRight d (created s tables table) rest
 create_right d s tables table rest sound =
     word_then d (codes "CREATE") (word (codes "TABLE") ∷ blank ∷ quoted_name_piece table.name ∷ blank ∷ bracketed)
     rest refl
@@ -277,7 +282,7 @@ create_right d s tables table rest sound =
     (name_then d table.name bracketed rest (opens d _, (refl, within))))
   where
     lines : List TextPiece
-    lines = lines_pieces (elements_pieces s tables table)
+    lines = lines_pieces (map element_pieces (elements_made s tables table))
 
     bracketed : List TextPiece
     bracketed = mark 40 ∷ gap (10 ∷ []) ∷ (lines ++ last)
@@ -285,13 +290,13 @@ create_right d s tables table rest sound =
     within : AreRight d (lines ++ last) rest
     within =
         right_append d lines last rest
-        (lines_right d (elements_pieces s tables table) _ (elements_are d s tables table sound) refl)
+        (lines_right d (map element_pieces (elements_made s tables table)) _ (made_are d s tables table sound) refl)
         (refl, (closes d rest, tt))
 
 pub create_depth : (d : Dialect) (s : Schema) (tables : List TableDesign) (table : TableDesign)
     → AreSound d s
-    → depth_past 0 (create_pieces s tables table) ≡ 0
+    → depth_past 0 (created s tables table) ≡ 0
 create_depth d s tables table sound =
-    depth_append 1 (lines_pieces (elements_pieces s tables table)) last
+    depth_append 1 (lines_pieces (map element_pieces (elements_made s tables table))) last
     ∙ ap (λ (m : ℕ). depth_past m last)
-    (lines_depth d (elements_pieces s tables table) 1 (elements_are d s tables table sound))
+    (lines_depth d (map element_pieces (elements_made s tables table)) 1 (made_are d s tables table sound))

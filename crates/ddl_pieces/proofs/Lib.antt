@@ -1,5 +1,6 @@
 pub mod Cutting
 pub mod Fronts
+pub mod Designed
 pub mod Types
 pub mod Elements
 pub mod Texts

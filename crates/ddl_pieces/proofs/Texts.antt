@@ -1,176 +1,113 @@
 -- The text of a statement is that of its pieces.
-use Rattle.std.proofs.Common.{◌≡◌, ℕ, Bool, true, false, Some, None, Option, List, [], ◌∷◌, ◌++◌, map, filter, refl, sym, ap, ap₂, ◌∙◌, append_assoc}
-use Rattle.std.specs.Prelude.{codes, if◌then◌else◌, slice_get, slice_index_or, unwrap_or, option_map}
+use Rattle.std.proofs.Common.{◌≡◌, ℕ, Bool, true, false, List, [], ◌∷◌, ◌++◌, map, refl, sym, ap, ap₂, ◌∙◌, append_assoc, append-nil}
+use Rattle.std.specs.Prelude.{codes, if◌then◌else◌}
 use Rattle.std.specs.List.{flat_map}
-use Rattle.std.proofs.lemmas.List.{map-append}
-use Rattle.attr_sets.specs.Attributes.{Attributes}
-use Rattle.attr_sets.specs.Sets.{attributes}
-use Rattle.dep_model.specs.Projections.{members_below}
-use Rattle.schema_model.specs.Schemas.{names_of, nullable_of, types_of, width_of}
-use Rattle.schema_model.specs.declared.column_type.ColumnType.{ColumnType}
-use Rattle.schema_model.specs.declared.column_type.ColumnType.TheVariants as type
+use Rattle.std.proofs.lemmas.Grind.{flat_map-append}
 use Rattle.schema_model.specs.Schemas.{Schema}
-use Rattle.schema_printer.specs.Printing.{members_from}
-use Rattle.sql_syntax.specs.Names.{comma_list, name_list, quoted_name, separator}
-use Rattle.ddl_text.specs.Ddl.{column_element, column_type, comment, element_lines, elements, is_empty, is_never_missing, key_element, keys_elements, reference_element, sql_type, table_text, unique_element}
-use Rattle.ddl_text.specs.Designs.{known_keys}
+use Rattle.sql_syntax.specs.Names.{quoted_name, separator}
+use Rattle.sql_syntax.specs.Syntax.{ColumnName, attribute, helper}
+use Rattle.sql_syntax.specs.Printing.{name_text, names_text}
+use Rattle.sql_syntax.specs.Statements.{Element, column_definition, primary_key, unique_key, foreign_key, create_table, element_text, element_lines, statement_text, script_text}
+use Rattle.ddl_text.specs.Ddl.{elements_made, remarks_made, table_made}
 use Rattle.ddl_text.specs.declared.table.TableDesign.{TableDesign}
-use Rattle.ddl_pieces.specs.Pieces.{TextPiece, column_pieces, columns_pieces, create_pieces, elements_pieces, gap, key_pieces, keys_pieces, lines_after, lines_pieces, list_pieces, mark, name_pieces, names_after, not_null, reference_pieces, references_pieces, referred, text_of, type_pieces, unique_pieces}
+use Rattle.ddl_pieces.specs.Pieces.{TextPiece, blank, bracketed, column_piece, create_pieces, element_pieces, gap, lines_after, lines_pieces, listed, listed_after, mark, not_null, pieces_in_type, quoted_piece, text_of, word}
 use Rattle.ddl_pieces.proofs.Cutting.{text_append}
-use Rattle.ddl_pieces.proofs.Elements.{target}
-use Rattle.ddl_pieces.proofs.Types.{type_text}
+use Rattle.ddl_pieces.proofs.Types.{rest_text}
+
+five_parts : (a b c d e : List ℕ) → a ++ b ++ c ++ d ++ e ≡ a ++ (b ++ (c ++ (d ++ e)))
+five_parts a b c d e = simp append_assoc
 
 six_parts : (a b c d e f : List ℕ) → a ++ b ++ c ++ d ++ e ++ f ≡ a ++ (b ++ (c ++ (d ++ (e ++ f))))
 six_parts a b c d e f = simp append_assoc
 
--- ---- columns
-missing_text : (nullable : Bool)
-    → text_of (if nullable then [] else not_null) ≡ (if nullable then [] else codes " NOT NULL")
-missing_text true = refl
-missing_text false = refl
+-- ---- names
+name_shown : (name : ColumnName) → (column_piece name).bytes ≡ name_text name
+name_shown (attribute name) = refl
+name_shown (helper name) = refl
 
-column_text : (s : Schema) (k : ℕ) → text_of (column_pieces s k) ≡ column_element s k
-unfolding column_element column_type
-column_text s k =
-    ap (λ (t : List ℕ). quoted_name (slice_index_or (names_of s) k []) ++ 32 ∷ t)
-    (text_append (type_pieces column) (if nullable_of s k then [] else not_null)
-    ∙ ap (λ (t : List ℕ). t ++ text_of (if nullable_of s k then [] else not_null)) (type_text column)
-    ∙ ap (λ (t : List ℕ). sql_type column ++ t) (missing_text (nullable_of s k)))
-  where
-    column : ColumnType
-    column = slice_index_or (types_of s) k type.Text
+after_shown : (names : List ColumnName)
+    → text_of (listed_after names) ≡ flat_map (λ name. separator ++ name_text name) names
+after_shown [] = refl
+after_shown (name ∷ names) = ap₂ (λ (t u : List ℕ). separator ++ (t ++ u)) (name_shown name) (after_shown names)
 
--- ---- lists of names
-after_text : (names : List (List ℕ))
-    → text_of (names_after names) ≡ flat_map (λ name. separator ++ quoted_name name) names
-after_text [] = refl
-after_text (name ∷ names) = ap (λ (t : List ℕ). separator ++ (quoted_name name ++ t)) (after_text names)
+listed_shown : (names : List ColumnName) → text_of (listed names) ≡ names_text names
+listed_shown [] = refl
+listed_shown (name ∷ names) = ap₂ (λ (t u : List ℕ). t ++ u) (name_shown name) (after_shown names)
 
-names_text : (names : List (List ℕ)) → text_of (name_pieces names) ≡ comma_list quoted_name names
-names_text [] = refl
-names_text (name ∷ names) = ap (λ (t : List ℕ). quoted_name name ++ t) (after_text names)
-
-list_text : (s : Schema) (x : Attributes)
-    → text_of (list_pieces s x) ≡ codes "(" ++ name_list s x ++ codes ")"
-list_text s x =
+bracketed_shown : (names : List ColumnName) → text_of (bracketed names) ≡ codes "(" ++ names_text names ++ codes ")"
+bracketed_shown names =
     ap (λ (t : List ℕ). 40 ∷ t)
-    (text_append (name_pieces (members_from x 0 (names_of s))) (mark 41 ∷ [])
-    ∙ ap (λ (t : List ℕ). t ++ 41 ∷ []) (names_text (members_from x 0 (names_of s))))
-
--- ---- keys and references
-key_text : (s : Schema) (key : Attributes) → text_of (key_pieces s key) ≡ key_element s key
-unfolding key_element
-key_text s key = ap (λ (t : List ℕ). codes "PRIMARY KEY " ++ t) (list_text s key)
-
-unique_text : (s : Schema) (key : Attributes) → text_of (unique_pieces s key) ≡ unique_element s key
-unfolding unique_element
-unique_text s key = ap (λ (t : List ℕ). codes "UNIQUE " ++ t) (list_text s key)
-
-reference_text : (s : Schema) (other : TableDesign)
-    → text_of (reference_pieces s other) ≡ reference_element s other
-unfolding reference_element
-reference_text s other =
-    ap (λ (t : List ℕ). codes "FOREIGN KEY " ++ t)
-    (text_append (list_pieces s (attributes other.key)) (target s other)
-    ∙ ap₂ (λ (t u : List ℕ). t ++ (codes " REFERENCES " ++ (quoted_name other.name ++ 32 ∷ u))) key key
-    ∙ ap (λ (t : List ℕ). 40 ∷ t)
-    (append_assoc names (codes ")")
-    (codes " REFERENCES " ++ (quoted_name other.name ++ (codes " (" ++ (names ++ codes ")"))))
-    ∙ sym (six_parts names (codes ") REFERENCES ") (quoted_name other.name) (codes " (") names (codes ")"))))
-  where
-    names : List ℕ
-    names = name_list s (attributes other.key)
-
-    key : text_of (list_pieces s (attributes other.key))
-        ≡ codes "(" ++ name_list s (attributes other.key) ++ codes ")"
-    key = list_text s (attributes other.key)
-
-referred_text : (s : Schema) (found : Option TableDesign)
-    → text_of (referred s found) ≡ unwrap_or (option_map (reference_element s) found) []
-referred_text s None = refl
-referred_text s (Some other) = reference_text s other
+    (text_append (listed names) (mark 41 ∷ []) ∙ ap (λ (t : List ℕ). t ++ 41 ∷ []) (listed_shown names))
 
 -- ---- elements
-mapped_text : {X : Type 0} (f : X → List TextPiece) (g : X → List ℕ) → ((x : X) → text_of (f x) ≡ g x)
-    → (xs : List X)
-    → map text_of (map f xs) ≡ map g xs
-mapped_text f g same [] = refl
-mapped_text f g same (x ∷ xs) =
-    ap (λ (t : List ℕ). t ∷ map text_of (map f xs)) (same x)
-    ∙ ap (λ (ts : List (List ℕ)). g x ∷ ts) (mapped_text f g same xs)
+missing_shown : (nullable : Bool)
+    → text_of (if nullable then [] else not_null) ≡ (if nullable then [] else codes " NOT NULL")
+missing_shown true = refl
+missing_shown false = refl
 
-primary_text : (s : Schema) (key : Attributes) (empty : Bool)
-    → map text_of (if empty then [] else key_pieces s key ∷ [])
-    ≡ (if empty then [] else key_element s key ∷ [])
-primary_text s key true = refl
-primary_text s key false = ap (λ (t : List ℕ). t ∷ []) (key_text s key)
+-- what follows the names of a reference
+abbrev after_names : List ColumnName → List ℕ → List TextPiece
+after_names names other = blank ∷ word (codes "REFERENCES") ∷ blank ∷ quoted_piece other ∷ blank ∷ bracketed names
 
-keys_text : (s : Schema) (table : TableDesign)
-    → map text_of (keys_pieces s table) ≡ keys_elements s table
-keys_text s table =
-    map-append text_of (if is_empty key then [] else key_pieces s key ∷ []) (map (unique_pieces s) others)
-    ∙ ap₂ (λ (a b : List (List ℕ)). a ++ b) (primary_text s key (is_empty key))
-    (mapped_text (unique_pieces s) (unique_element s) (unique_text s) others)
-  where
-    key : Attributes
-    key = attributes table.key
+referring_shown : (names : List ℕ) (other : List ℕ)
+    → (codes "(" ++ names ++ codes ")") ++ (codes " REFERENCES " ++ (other ++ 32 ∷ (codes "(" ++ names ++ codes ")")))
+    ≡ codes "(" ++ names ++ codes ") REFERENCES " ++ other ++ codes " (" ++ names ++ codes ")"
+referring_shown names other =
+    ap (λ (t : List ℕ). 40 ∷ t)
+    (append_assoc names (codes ")") (codes " REFERENCES " ++ (other ++ (codes " (" ++ (names ++ codes ")"))))
+    ∙ sym (six_parts names (codes ") REFERENCES ") other (codes " (") names (codes ")")))
 
-    others : List Attributes
-    others = filter (is_never_missing s) (known_keys table.other_keys)
+element_shown : (e : Element) → text_of (element_pieces e) ≡ element_text e
+element_shown (column_definition name type nullable) =
+    ap₂ (λ (t u : List ℕ). t ++ 32 ∷ u) (name_shown name)
+    (text_append (pieces_in_type 0 type) (if nullable then [] else not_null)
+    ∙ ap₂ (λ (t u : List ℕ). t ++ u) (rest_text 0 type) (missing_shown nullable))
+element_shown (primary_key names) = ap (λ (t : List ℕ). codes "PRIMARY KEY " ++ t) (bracketed_shown names)
+element_shown (unique_key names) = ap (λ (t : List ℕ). codes "UNIQUE " ++ t) (bracketed_shown names)
+element_shown (foreign_key names other) =
+    ap (λ (t : List ℕ). codes "FOREIGN KEY " ++ t)
+    (text_append (bracketed names) (after_names names other)
+    ∙ ap₂ (λ (t u : List ℕ). t ++ (codes " REFERENCES " ++ (other ++ 32 ∷ u))) (bracketed_shown names) (bracketed_shown names)
+    ∙ referring_shown (names_text names) other)
 
-elements_text : (s : Schema) (tables : List TableDesign) (table : TableDesign)
-    → map text_of (elements_pieces s tables table) ≡ elements s tables table
-elements_text s tables table =
-    map-append text_of (columns_pieces s table ++ keys_pieces s table) (references_pieces s tables table)
-    ∙ ap₂ (λ (a b : List (List ℕ)). a ++ b)
-    (map-append text_of (columns_pieces s table) (keys_pieces s table)
-    ∙ ap₂ (λ (a b : List (List ℕ)). a ++ b)
-    (mapped_text (column_pieces s) (column_element s) (column_text s)
-    (members_below (width_of s) (attributes table.scheme)))
-    (keys_text s table))
-    (mapped_text (λ j. referred s (slice_get tables j))
-    (λ j. unwrap_or (option_map (reference_element s) (slice_get tables j)) [])
-    (λ j. referred_text s (slice_get tables j)) table.refs.items)
-
-after_lines_text : (elements : List (List TextPiece))
-    → text_of (lines_after elements) ≡ element_lines true (map text_of elements)
-after_lines_text [] = refl
-after_lines_text (element ∷ elements) =
+after_lines_shown : (elements : List Element) → text_of (lines_after (map element_pieces elements)) ≡ element_lines true elements
+after_lines_shown [] = refl
+after_lines_shown (element ∷ elements) =
     ap (λ (t : List ℕ). codes ",\n  " ++ t)
-    (text_append element (lines_after elements)
-    ∙ ap (λ (t : List ℕ). text_of element ++ t) (after_lines_text elements))
+    (text_append (element_pieces element) (lines_after (map element_pieces elements))
+    ∙ ap₂ (λ (t u : List ℕ). t ++ u) (element_shown element) (after_lines_shown elements))
 
-lines_text : (elements : List (List TextPiece))
-    → text_of (lines_pieces elements) ≡ element_lines false (map text_of elements)
-lines_text [] = refl
-lines_text (element ∷ elements) =
+lines_shown : (elements : List Element) → text_of (lines_pieces (map element_pieces elements)) ≡ element_lines false elements
+lines_shown [] = refl
+lines_shown (element ∷ elements) =
     ap (λ (t : List ℕ). codes "  " ++ t)
-    (text_append element (lines_after elements)
-    ∙ ap (λ (t : List ℕ). text_of element ++ t) (after_lines_text elements))
+    (text_append (element_pieces element) (lines_after (map element_pieces elements))
+    ∙ ap₂ (λ (t u : List ℕ). t ++ u) (element_shown element) (after_lines_shown elements))
 
 -- ---- statements
-pub statement_text : (s : Schema) (tables : List TableDesign) (table : TableDesign)
-    → table_text s tables table
-    ≡ comment s table ++ (text_of (create_pieces s tables table) ++ 59 ∷ 10 ∷ [])
-unfolding table_text
-statement_text s tables table =
-    six_parts (comment s table) (codes "CREATE TABLE ") name (codes " (\n")
-    (element_lines false (elements s tables table)) (codes "\n);\n")
-    ∙ ap (λ (t : List ℕ). comment s table ++ (codes "CREATE TABLE " ++ t))
-    (ap (λ (es : List (List ℕ)). name ++ (codes " (\n" ++ (element_lines false es ++ codes "\n);\n")))
-    (sym (elements_text s tables table))
-    ∙ ap (λ (t : List ℕ). name ++ (codes " (\n" ++ (t ++ codes "\n);\n"))) (sym (lines_text all))
+create_shown : (name : List ℕ) (elements : List Element)
+    → statement_text (create_table name elements) ≡ text_of (create_pieces name elements) ++ 59 ∷ 10 ∷ []
+unfolding statement_text
+create_shown name elements =
+    five_parts (codes "CREATE TABLE ") name (codes " (\n") (element_lines false elements) (codes "\n);\n")
+    ∙ ap (λ (t : List ℕ). codes "CREATE TABLE " ++ t)
+    (ap (λ (t : List ℕ). name ++ (codes " (\n" ++ (t ++ codes "\n);\n"))) (sym (lines_shown elements))
     ∙ ap (λ (t : List ℕ). name ++ (codes " (\n" ++ t))
     (sym (append_assoc (text_of lines) (codes "\n)") (codes ";\n")))
     ∙ ap (λ (t : List ℕ). name ++ (codes " (\n" ++ (t ++ codes ";\n")))
     (sym (text_append lines (gap (10 ∷ []) ∷ mark 41 ∷ [])))
     ∙ sym (append_assoc name (codes " (\n" ++ text_of (lines ++ gap (10 ∷ []) ∷ mark 41 ∷ [])) (codes ";\n")))
   where
-    name : List ℕ
-    name = quoted_name table.name
-
-    all : List (List TextPiece)
-    all = elements_pieces s tables table
-
     lines : List TextPiece
-    lines = lines_pieces all
+    lines = lines_pieces (map element_pieces elements)
+
+-- what is said of a table, and the statement that creates it
+pub table_shown : (s : Schema) (tables : List TableDesign) (table : TableDesign)
+    → script_text (table_made s tables table)
+    ≡ script_text (remarks_made s table)
+    ++ (text_of (create_pieces (quoted_name table.name) (elements_made s tables table)) ++ 59 ∷ 10 ∷ [])
+table_shown s tables table =
+    let made = create_table (quoted_name table.name) (elements_made s tables table) in
+    flat_map-append statement_text (remarks_made s table) (made ∷ [])
+    ∙ ap (λ (t : List ℕ). script_text (remarks_made s table) ++ t)
+    (append-nil (statement_text made) ∙ create_shown (quoted_name table.name) (elements_made s tables table))

@@ -16,13 +16,12 @@ use Rattle.sql_lexemes.specs.Bytes.{begins_word, is_number_byte, is_word_byte}
 use Rattle.sql_lexemes.specs.declared.dialect.Dialect.{Dialect}
 use Rattle.sql_lexemes.specs.declared.lexeme.LexemeKind.{LexemeKind}
 use Rattle.sql_lexemes.specs.declared.lexeme.LexemeKind.TheVariants as kind
-use Rattle.ddl_text.specs.Ddl.{sql_type}
 use Rattle.ddl_pieces.specs.Pieces.{are_paired, blank, is_own_type, is_sound_type, is_unquoted, kind_in_type, mark, more_in_type, number, pieces_in_type, text_of, type_pieces}
 use Rattle.ddl_pieces.proofs.Cutting.{AreRight, IsRight, depth_of, depth_past}
 use Rattle.ddl_pieces.proofs.Fronts.{IsEmptyOrParting, closes, is_number_text, mark_right, number_front, number_right, opens, parts, run_right, stops_parted, word_front, word_right}
 
 -- ---- the text of the pieces
-rest_text : (skip : ℕ) (bytes : List ℕ) → text_of (pieces_in_type skip bytes) ≡ drop skip bytes
+pub rest_text : (skip : ℕ) (bytes : List ℕ) → text_of (pieces_in_type skip bytes) ≡ drop skip bytes
 unfolding pieces_in_type
 rest_text zero [] = refl
 rest_text (suc n) [] = refl
@@ -31,15 +30,6 @@ rest_text zero (b ∷ bytes) =
     let more = more_in_type (kind_in_type b) bytes in
     ap (λ (t : List ℕ). b ∷ (take more bytes ++ t)) (rest_text more bytes)
     ∙ ap (λ (t : List ℕ). b ∷ t) (take-append-drop more bytes)
-
-pub type_text : (column : ColumnType) → text_of (type_pieces column) ≡ sql_type column
-type_text type.Text = refl
-type_text type.Integer = refl
-type_text type.Date = refl
-type_text type.Timestamp = refl
-type_text (type.Decimal scale) = refl
-type_text type.Uuid = refl
-type_text (type.Other text) = rest_text 0 text
 
 -- ---- what a byte begins
 abbrev Begins : ℕ → Option LexemeKind → Type 0

@@ -1,19 +1,15 @@
 -- The statements that create the tables of a design, piece by piece, and the lexemes that stand in them: for
 -- the law of its text, and for the laws that read it back. `Desk` does not cite it.
-use Rattle.std.specs.Prelude.{ℕ, ◌+◌, ◌-◌, ◌==◌, nat_lt, zero, suc, Bool, true, false, not, ◌&&◌, if◌then◌else◌, List, [], ◌∷◌, ◌++◌, map, filter, take, codes, decimal, slice_get, slice_index_or, Option, Some, None, length}
+use Rattle.std.specs.Prelude.{ℕ, ◌+◌, ◌-◌, ◌==◌, nat_lt, zero, suc, Bool, true, false, not, ◌&&◌, if◌then◌else◌, List, [], ◌∷◌, ◌++◌, map, take, codes, decimal, Option, Some, None, length}
 use Rattle.std.specs.Char.{is_ascii_digit}
 use Rattle.std.specs.List.{flat_map, list_all, prefix_len}
-use Rattle.attr_sets.specs.Attributes.{Attributes}
-use Rattle.attr_sets.specs.Sets.{attributes}
 use Rattle.schema_model.specs.declared.column_type.ColumnType.{ColumnType}
 use Rattle.schema_model.specs.declared.column_type.ColumnType.TheVariants as type
 use Rattle.schema_model.specs.Schemas.{Schema}
-use Rattle.dep_model.specs.Projections.{members_below}
-use Rattle.schema_model.specs.Schemas.{names_of, width_of, types_of, nullable_of}
-use Rattle.schema_printer.specs.Printing.{members_from}
 use Rattle.sql_syntax.specs.Names.{quoted_name}
-use Rattle.ddl_text.specs.Ddl.{is_empty, is_never_missing}
-use Rattle.ddl_text.specs.Designs.{known_keys}
+use Rattle.sql_syntax.specs.Syntax.{ColumnName, attribute, helper}
+use Rattle.sql_syntax.specs.Statements.{Element, column_definition, primary_key, unique_key, foreign_key}
+use Rattle.ddl_text.specs.Ddl.{elements_made}
 use Rattle.ddl_text.specs.declared.table.TableDesign.{TableDesign}
 use Rattle.sql_lexemes.specs.declared.lexeme.LexemeKind.{LexemeKind}
 use Rattle.sql_lexemes.specs.declared.lexeme.LexemeKind.TheVariants as kind
@@ -37,8 +33,12 @@ word bytes = record { kind = Some kind.Word; bytes = bytes }
 abbrev pub number : List ℕ → TextPiece
 number bytes = record { kind = Some kind.Number; bytes = bytes }
 
+-- a name in quotes, with these quotes or without them
+abbrev pub quoted_piece : List ℕ → TextPiece
+quoted_piece bytes = record { kind = Some kind.Quoted; bytes = bytes }
+
 abbrev pub quoted_name_piece : List ℕ → TextPiece
-quoted_name_piece name = record { kind = Some kind.Quoted; bytes = quoted_name name }
+quoted_name_piece name = quoted_piece (quoted_name name)
 
 abbrev pub mark : ℕ → TextPiece
 mark b = record { kind = Some kind.Mark; bytes = b ∷ [] }
@@ -110,7 +110,7 @@ abbrev pub is_own_type : ColumnType → Bool
 is_own_type (type.Other text) = false
 is_own_type column = true
 
--- a type in SQL
+-- a type in SQL, as it is cut
 abbrev pub type_pieces : ColumnType → List TextPiece
 type_pieces type.Text = word (codes "TEXT") ∷ []
 type_pieces type.Integer = word (codes "BIGINT") ∷ []
@@ -122,62 +122,34 @@ type_pieces (type.Decimal scale) =
 type_pieces type.Uuid = word (codes "UUID") ∷ []
 type_pieces (type.Other text) = pieces_in_type 0 text
 
+-- ---- elements
 abbrev pub not_null : List TextPiece
 not_null = blank ∷ word (codes "NOT") ∷ blank ∷ word (codes "NULL") ∷ []
 
--- the column of an attribute
-abbrev pub column_pieces : Schema → ℕ → List TextPiece
-column_pieces s k =
-    quoted_name_piece (slice_index_or (names_of s) k []) ∷ blank
-    ∷ (type_pieces (slice_index_or (types_of s) k type.Text) ++ (if nullable_of s k then [] else not_null))
+-- the name of a column: a user's name stands in quotes
+abbrev pub column_piece : ColumnName → TextPiece
+column_piece (attribute name) = quoted_name_piece name
+column_piece (helper name) = word name
 
--- names, with a comma and a blank between two
-abbrev pub names_after : List (List ℕ) → List TextPiece
-names_after names = flat_map (λ name. mark 44 ∷ blank ∷ quoted_name_piece name ∷ []) names
+-- names in round brackets, with a comma and a blank between two
+abbrev pub listed_after : List ColumnName → List TextPiece
+listed_after names = flat_map (λ name. mark 44 ∷ blank ∷ column_piece name ∷ []) names
 
-abbrev pub name_pieces : List (List ℕ) → List TextPiece
-name_pieces [] = []
-name_pieces (name ∷ names) = quoted_name_piece name ∷ names_after names
+abbrev pub listed : List ColumnName → List TextPiece
+listed [] = []
+listed (name ∷ names) = column_piece name ∷ listed_after names
 
--- names of attributes in round brackets
-abbrev pub list_pieces : Schema → Attributes → List TextPiece
-list_pieces s x = mark 40 ∷ (name_pieces (members_from x 0 (names_of s)) ++ mark 41 ∷ [])
+abbrev pub bracketed : List ColumnName → List TextPiece
+bracketed names = mark 40 ∷ (listed names ++ mark 41 ∷ [])
 
-abbrev pub key_pieces : Schema → Attributes → List TextPiece
-key_pieces s key = word (codes "PRIMARY") ∷ blank ∷ word (codes "KEY") ∷ blank ∷ list_pieces s key
-
-abbrev pub unique_pieces : Schema → Attributes → List TextPiece
-unique_pieces s key = word (codes "UNIQUE") ∷ blank ∷ list_pieces s key
-
--- a reference to a table by its key
-abbrev pub reference_pieces : Schema → TableDesign → List TextPiece
-reference_pieces s other =
-    word (codes "FOREIGN") ∷ blank ∷ word (codes "KEY") ∷ blank ∷ (list_pieces s (attributes other.key)
-    ++ blank ∷ word (codes "REFERENCES") ∷ blank ∷ quoted_name_piece other.name ∷ blank
-    ∷ list_pieces s (attributes other.key))
-
--- the columns of a table
-abbrev pub columns_pieces : Schema → TableDesign → List (List TextPiece)
-columns_pieces s table = map (column_pieces s) (members_below (width_of s) (attributes table.scheme))
-
--- the keys of a table that are stated
-abbrev pub keys_pieces : Schema → TableDesign → List (List TextPiece)
-keys_pieces s table =
-    (if is_empty (attributes table.key) then [] else key_pieces s (attributes table.key) ∷ [])
-    ++ map (unique_pieces s) (filter (is_never_missing s) (known_keys table.other_keys))
-
--- a reference to the table at a position, where there is one
-abbrev pub referred : Schema → Option TableDesign → List TextPiece
-referred s None = []
-referred s (Some other) = reference_pieces s other
-
-abbrev pub references_pieces : Schema → List TableDesign → TableDesign → List (List TextPiece)
-references_pieces s tables table = map (λ j. referred s (slice_get tables j)) table.refs.items
-
--- the elements of a table
-abbrev pub elements_pieces : Schema → List TableDesign → TableDesign → List (List TextPiece)
-elements_pieces s tables table =
-    columns_pieces s table ++ keys_pieces s table ++ references_pieces s tables table
+abbrev pub element_pieces : Element → List TextPiece
+element_pieces (column_definition name type nullable) =
+    column_piece name ∷ blank ∷ (pieces_in_type 0 type ++ (if nullable then [] else not_null))
+element_pieces (primary_key names) = word (codes "PRIMARY") ∷ blank ∷ word (codes "KEY") ∷ blank ∷ bracketed names
+element_pieces (unique_key names) = word (codes "UNIQUE") ∷ blank ∷ bracketed names
+element_pieces (foreign_key names other) =
+    word (codes "FOREIGN") ∷ blank ∷ word (codes "KEY") ∷ blank ∷ (bracketed names
+    ++ blank ∷ word (codes "REFERENCES") ∷ blank ∷ quoted_piece other ∷ blank ∷ bracketed names)
 
 -- elements, each on a line, with a comma between two
 abbrev pub lines_after : List (List TextPiece) → List TextPiece
@@ -188,11 +160,12 @@ lines_pieces [] = []
 lines_pieces (element ∷ elements) = gap (codes "  ") ∷ (element ++ lines_after elements)
 
 -- what the statement that creates a table has, but for what stands before it and the semicolon that ends it
-abbrev pub create_pieces : Schema → List TableDesign → TableDesign → List TextPiece
-create_pieces s tables table =
-    word (codes "CREATE") ∷ blank ∷ word (codes "TABLE") ∷ blank ∷ quoted_name_piece table.name ∷ blank ∷ mark 40
-    ∷ gap (10 ∷ []) ∷ (lines_pieces (elements_pieces s tables table) ++ gap (10 ∷ []) ∷ mark 41 ∷ [])
+abbrev pub create_pieces : List ℕ → List Element → List TextPiece
+create_pieces name elements =
+    word (codes "CREATE") ∷ blank ∷ word (codes "TABLE") ∷ blank ∷ quoted_piece name ∷ blank ∷ mark 40 ∷ gap (10 ∷ [])
+    ∷ (lines_pieces (map element_pieces elements) ++ gap (10 ∷ []) ∷ mark 41 ∷ [])
 
 -- the lexemes of the statement that creates a table, the first of which stands at a place
 abbrev pub create_lexemes : ℕ → Schema → List TableDesign → TableDesign → List Lexed
-create_lexemes place s tables table = lexemes_from place 0 (create_pieces s tables table)
+create_lexemes place s tables table =
+    lexemes_from place 0 (create_pieces (quoted_name table.name) (elements_made s tables table))

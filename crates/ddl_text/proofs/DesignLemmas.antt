@@ -20,7 +20,7 @@ use Rattle.dep_model.proofs.ListLemmas.{map-member}
 use Rattle.primary_keys.specs.PrimaryKeys.{IsPrimaryKey}
 use Rattle.table_names.specs.TableNames.{GivenNames}
 use Rattle.ddl_text.specs.declared.table.TableDesign.{TableDesign}
-use Rattle.ddl_text.specs.Designs.{RefersTo, AreReferences, AreOtherKeys, known_keys, IsTableOf, IsDesign, ReferToEarlier}
+use Rattle.ddl_text.specs.Designs.{RefersTo, AreReferences, AreOtherKeys, keyed, known_keys, IsTableOf, IsDesign, ReferToEarlier}
 use Rattle.ddl_text.specs.Laws.{KeysHold, OtherKeysHold, ReferencesHold}
 use Rattle.ddl_text.proofs.KeyReferenceLemmas.{key_holds, is_key_holds, reference_holds}
 
@@ -160,7 +160,7 @@ design_more s names schemes i d tables table lt design last = rw (take_more sche
     (design_push s names (take i schemes) tables (get_or schemes i d) table design last)
 
 -- ---- other keys
-other_key : (s : Schema) (scheme key : Attributes) (others : Option (Vec AttrSet Global)) (k : Attributes)
+pub other_key : (s : Schema) (scheme key : Attributes) (others : Option (Vec AttrSet Global)) (k : Attributes)
     → AreOtherKeys s scheme key others → Contains (known_keys others) k → IsKey (width_of s) (theory_of s) scheme k
 other_key s scheme key None k are has = absurd (omega (arith, has.1))
 other_key s scheme key (Some keys) k (inl only) has =
@@ -174,7 +174,7 @@ other_key s scheme key (Some keys) k (inr listed) has =
     (All-contains (λ (j : AttrSet). IsKey (width_of s) (theory_of s) scheme (attributes j)) all.0 from.0 all.1.each at.0)
 
 -- ---- each table of a design
-table_at : (s : Schema) (names : GivenNames) (schemes : List AttrSet) (tables : List TableDesign) (k : ℕ) (table : TableDesign)
+pub table_at : (s : Schema) (names : GivenNames) (schemes : List AttrSet) (tables : List TableDesign) (k : ℕ) (table : TableDesign)
     → IsDesign s names schemes tables → slice_get tables k ≡ Some table
     → IsTableOf s names (take k tables) (get_or schemes k table.scheme) table
 table_at s names schemes tables k table design at =
@@ -199,31 +199,28 @@ design_earlier s names schemes tables design k table at =
     ))
     refs (All-contains_itself refs)
 
-slice_get-member : {X : Type 0} (xs : List X) (x : X) (has : Contains xs x) → slice_get xs has.0 ≡ Some x
+pub slice_get-member : {X : Type 0} (xs : List X) (x : X) (has : Contains xs x) → slice_get xs has.0 ≡ Some x
 slice_get-member xs x has = slice_get-get_or xs has.0 x has.1 ∙ ap Some has.2
 
 pub design_keys : (s : Schema) (names : GivenNames) (schemes : List AttrSet) (tables : List TableDesign) → IsDesign s names schemes tables
     → All (λ (scheme : AttrSet). IsSubset (attributes scheme) (universe_of s)) schemes → KeysHold s tables
-design_keys s names schemes tables design within r legal table has =
+design_keys s names schemes tables design within missing r legal table has =
     let is = table_at s names schemes tables has.0 table design (slice_get-member tables table has) in
     let inside = within has.0 table.scheme (omega (arith, has.1, design.one_each)) in
-    key_holds (width_of s) (theory_of s) (nullable_of s) (attributes table.scheme) (attributes table.key) r
+    key_holds (width_of s) (theory_of s) (nullable_of s) missing (keyed table) r
     (subst (λ (x : AttrSet). IsSubset (attributes x) (universe_of s)) (sym is.columns) inside) legal
     (subst (λ (x : AttrSet). IsPrimaryKey (width_of s) (theory_of s) (nullable_of s) (attributes x)
     (attributes table.key)) (sym is.columns) is.key)
 
-pub design_other_keys : (s : Schema) (names : GivenNames) (schemes : List AttrSet) (tables : List TableDesign) → IsDesign s names schemes tables
-    → All (λ (scheme : AttrSet). IsSubset (attributes scheme) (universe_of s)) schemes → OtherKeysHold s tables
-design_other_keys s names schemes tables design within r legal table has key named =
+pub design_other_keys : (s : Schema) (names : GivenNames) (schemes : List AttrSet) (tables : List TableDesign) → IsDesign s names schemes tables → OtherKeysHold s tables
+design_other_keys s names schemes tables design missing r legal table has key named =
     let is = table_at s names schemes tables has.0 table design (slice_get-member tables table has) in
-    let inside = within has.0 table.scheme (omega (arith, has.1, design.one_each)) in
     let is_key = other_key s (attributes (get_or schemes has.0 table.scheme)) (attributes table.key) table.other_keys key is.other_keys named in
-    is_key_holds (width_of s) (theory_of s) (attributes table.scheme) key r
-    (subst (λ (x : AttrSet). IsSubset (attributes x) (universe_of s)) (sym is.columns) inside) legal
+    is_key_holds (width_of s) (theory_of s) missing (keyed table) key r legal
     (subst (λ (x : AttrSet). IsKey (width_of s) (theory_of s) (attributes x) key) (sym is.columns) is_key)
 
 -- the table that a reference names
-referred_table : (scheme : Attributes) (tables : List TableDesign) (k j : ℕ) (other : TableDesign)
+pub referred_table : (scheme : Attributes) (tables : List TableDesign) (k j : ℕ) (other : TableDesign)
     → RefersAt scheme (take k tables) j → slice_get tables j ≡ Some other → RefersTo scheme other
 referred_table scheme tables k j other refers at =
     let lt = refers_within scheme (take k tables) j refers in
@@ -234,12 +231,12 @@ referred_table scheme tables k j other refers at =
 
 pub design_references : (s : Schema) (names : GivenNames) (schemes : List AttrSet) (tables : List TableDesign)
     → IsDesign s names schemes tables → ReferencesHold s tables
-design_references s names schemes tables design r legal table other j has named at =
+design_references s names schemes tables design missing r legal table other j has named at =
     let is = table_at s names schemes tables has.0 table design (slice_get-member tables table has) in
     let other_is = table_at s names schemes tables j other design at in
     let refers = referred_table (attributes (get_or schemes has.0 table.scheme)) tables has.0 j other
     ((is.refs.exactly j).0 named) at in
-    reference_holds (attributes table.scheme) (attributes other.scheme) (attributes other.key) r
+    reference_holds missing (keyed table) (keyed other) r
     (subst (λ (x : AttrSet). IsSubset (attributes other.key) (attributes x)) (sym is.columns) refers.within)
     (subst (λ (x : AttrSet). IsSubset (attributes other.key) (attributes x)) (sym other_is.columns)
     (λ k member. other_is.key.nullable_first.within k (other_is.key.others_next.within k member)))

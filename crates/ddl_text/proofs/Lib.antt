@@ -1,3 +1,3 @@
-mod DesignLemmas
+pub mod DesignLemmas
 mod KeyReferenceLemmas
 pub mod TextLemmas

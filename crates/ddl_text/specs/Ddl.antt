@@ -1,21 +1,22 @@
--- A design as SQL: for `print_ddl` and the command `ddl` (`desk_designs/Designs`), and for the
--- statements of `sql migrate`.
-use Rattle.std.specs.Prelude.{ℕ, Bool, true, false, if◌then◌else◌, not, List, [], ◌∷◌, ◌++◌, map, filter, codes, decimal, slice_get, slice_index_or, Option, Some, None, unwrap_or, option_map, Vec}
+-- A design as statements of SQL: for `print_ddl` and the command `ddl` (`desk_designs/Designs`), and for the script of
+-- `sql migrate` (`sql_migrate/Script`).
+use Rattle.std.specs.Prelude.{ℕ, Bool, if◌then◌else◌, not, List, [], ◌∷◌, ◌++◌, map, filter, codes, decimal, is_some, slice_index_or}
 use Rattle.std.specs.List.{flat_map}
-use Rattle.std.specs.declared.alloc.Global.{Global}
-use Rattle.attr_sets.specs.Attributes.{Attributes, none}
+use Rattle.attr_sets.specs.Attributes.{Attributes, none, difference}
 use Rattle.attr_sets.specs.Sets.{attributes, is_subset, is_disjoint}
-use Rattle.attr_sets.specs.declared.set.AttrSet.{AttrSet}
 use Rattle.schema_model.specs.declared.column_type.ColumnType.{ColumnType}
 use Rattle.schema_model.specs.declared.column_type.ColumnType.TheVariants.{Text, Integer, Date, Timestamp, Decimal, Uuid, Other}
 use Rattle.schema_model.specs.Schemas.{Schema}
-use Rattle.dep_model.specs.Plans.{schemes_of}
-use Rattle.dep_model.specs.Projections.{members_below}
 use Rattle.schema_model.specs.Schemas.{names_of, width_of, types_of, nullable_of}
-use Rattle.sql_syntax.specs.Names.{name_list, quoted_name}
+use Rattle.dep_model.specs.Projections.{members_below}
+use Rattle.sql_syntax.specs.Names.{attribute_names, quoted_name}
+use Rattle.sql_syntax.specs.Printing.{names_text}
+use Rattle.sql_syntax.specs.Syntax.{attribute}
+use Rattle.sql_syntax.specs.Statements.{Element, column_definition, primary_key, unique_key, foreign_key, Statement, remark, create_table, script_text}
 use Rattle.ddl_text.specs.Designs.{known_keys}
 use Rattle.ddl_text.specs.declared.table.TableDesign.{TableDesign}
 
+-- ---- columns
 -- a type of columns in SQL
 abbrev pub sql_type : ColumnType → List ℕ
 sql_type Text = codes "TEXT"
@@ -26,99 +27,85 @@ sql_type (Decimal scale) = codes "DECIMAL(15, " ++ decimal scale ++ codes ")"
 sql_type Uuid = codes "UUID"
 sql_type (Other text) = text
 
--- what stands after the name of a column of a type, whose values may be missing or not
-unfoldable pub column_type : ColumnType → Bool → List ℕ
-column_type column nullable = 32 ∷ (sql_type column ++ (if nullable then [] else codes " NOT NULL"))
+-- the column of an attribute, of which a value may be missing where it is one of these
+abbrev pub column_made : Schema → Attributes → ℕ → Element
+column_made s nullable k =
+    column_definition (attribute (slice_index_or (names_of s) k [])) (sql_type (slice_index_or (types_of s) k Text))
+    (nullable k)
 
--- the column of an attribute
-unfoldable pub column_element : Schema → ℕ → List ℕ
-column_element s k = quoted_name (slice_index_or (names_of s) k [])
-    ++ column_type (slice_index_or (types_of s) k Text) (nullable_of s k)
+abbrev pub columns_of_set : Schema → Attributes → Attributes → List Element
+columns_of_set s nullable scheme = map (column_made s nullable) (members_below (width_of s) scheme)
 
--- the columns of a scheme, ascending
-abbrev pub column_elements : Schema → Attributes → List (List ℕ)
-column_elements s scheme = map (column_element s) (members_below (width_of s) scheme)
+-- the columns of a table, ascending: no value of its key may be missing
+abbrev pub columns_made : Schema → TableDesign → List Element
+columns_made s table = columns_of_set s (difference (nullable_of s) (attributes table.key)) (attributes table.scheme)
 
-unfoldable pub key_element : Schema → Attributes → List ℕ
-key_element s key = codes "PRIMARY KEY (" ++ name_list s key ++ codes ")"
-
+-- ---- keys
 -- whether a set has no member
 abbrev pub is_empty : Attributes → Bool
 is_empty x = is_subset x none
-
--- the key, where it is not empty
-abbrev pub key_elements : Schema → Attributes → List (List ℕ)
-key_elements s key = if is_empty key then [] else key_element s key ∷ []
-
--- another key
-unfoldable pub unique_element : Schema → Attributes → List ℕ
-unique_element s key = codes "UNIQUE (" ++ name_list s key ++ codes ")"
 
 -- whether no value of a key may be missing
 abbrev pub is_never_missing : Schema → Attributes → Bool
 is_never_missing s key = is_disjoint key (nullable_of s)
 
--- those other keys of which no value may be missing
-abbrev pub unique_elements : Schema → List Attributes → List (List ℕ)
-unique_elements s keys = map (unique_element s) (filter (is_never_missing s) keys)
+-- those keys of which no value may be missing, which are stated, and the rest, which are left out
+abbrev pub stated_keys : Schema → List Attributes → List Attributes
+stated_keys s keys = filter (is_never_missing s) keys
 
--- the key and the other keys of a table
-abbrev pub keys_elements : Schema → TableDesign → List (List ℕ)
-keys_elements s table = key_elements s (attributes table.key) ++ unique_elements s (known_keys table.other_keys)
+abbrev pub left_out_keys : Schema → List Attributes → List Attributes
+left_out_keys s keys = filter (λ key. not (is_never_missing s key)) keys
 
+-- the key, where it is not empty, and those other keys that are stated
+abbrev pub key_made : Schema → Attributes → List Element
+key_made s key = if is_empty key then [] else primary_key (attribute_names s key) ∷ []
+
+abbrev pub uniques_made : Schema → List Attributes → List Element
+uniques_made s keys = map (λ key. unique_key (attribute_names s key)) (stated_keys s keys)
+
+abbrev pub keys_made : Schema → TableDesign → List Element
+keys_made s table = key_made s (attributes table.key) ++ uniques_made s (known_keys table.other_keys)
+
+-- ---- references
 -- a reference to a table by its key
-unfoldable pub reference_element : Schema → TableDesign → List ℕ
-reference_element s other =
-    codes "FOREIGN KEY (" ++ name_list s (attributes other.key) ++ codes ") REFERENCES " ++ quoted_name other.name
-    ++ codes " (" ++ name_list s (attributes other.key) ++ codes ")"
+abbrev pub reference_made : Schema → TableDesign → Element
+reference_made s other = foreign_key (attribute_names s (attributes other.key)) (quoted_name other.name)
 
--- the references to the tables at these positions, in order
-abbrev pub reference_elements : Schema → List TableDesign → List ℕ → List (List ℕ)
-reference_elements s tables refs =
-    map (λ j. unwrap_or (option_map (reference_element s) (slice_get tables j)) []) refs
+-- the references of a table to those at positions, in order
+abbrev pub references_to : Schema → List TableDesign → TableDesign → List ℕ → List Element
+references_to s tables table refs = map (λ j. reference_made s (slice_index_or tables j table)) refs
 
+abbrev pub references_made : Schema → List TableDesign → TableDesign → List Element
+references_made s tables table = references_to s tables table table.refs.items
+
+-- ---- tables
 -- the columns, the keys and the references of a table
-abbrev pub elements : Schema → List TableDesign → TableDesign → List (List ℕ)
-elements s tables table =
-    column_elements s (attributes table.scheme) ++ keys_elements s table
-    ++ reference_elements s tables
-    table.refs.items
+abbrev pub elements_made : Schema → List TableDesign → TableDesign → List Element
+elements_made s tables table = columns_made s table ++ keys_made s table ++ references_made s tables table
 
--- what stands before an element on its line, after the end of the line before, if there is one
-abbrev pub opening : Bool → List ℕ
-opening any_before = if any_before then codes ",\n  " else codes "  "
+-- what is said of a key that is left out
+abbrev pub left_out_words : Schema → Attributes → List ℕ
+left_out_words s key =
+    codes "UNIQUE (" ++ names_text (attribute_names s key) ++ codes ") is left out: missing values are not compared"
 
--- elements, each on a line with two blanks before it, and with a comma after each that another follows;
--- where others stand before them, from the comma after these on
-abbrev pub element_lines : Bool → List (List ℕ) → List ℕ
-element_lines any_before [] = []
-element_lines any_before (e ∷ es) = opening any_before ++ e ++ element_lines true es
+-- what is said before a table: that its key is empty, which other keys are left out, or that none are known
+abbrev pub said_of : Schema → TableDesign → List (List ℕ)
+said_of s table =
+    if is_empty (attributes table.key) then codes "at most one row" ∷ []
+    else if is_some table.other_keys then map (left_out_words s) (left_out_keys s (known_keys table.other_keys))
+    else codes "further keys are not looked for" ∷ []
 
--- what stands for a key of which a value may be missing
-unfoldable pub left_out_line : Schema → Attributes → List ℕ
-left_out_line s key =
-    codes "-- UNIQUE (" ++ name_list s key ++ codes ") is left out: missing values are not compared\n"
+abbrev pub remarks_made : Schema → TableDesign → List Statement
+remarks_made s table = map remark (said_of s table)
 
--- such a line for each of those keys
-abbrev pub left_out_lines : Schema → List Attributes → List ℕ
-left_out_lines s keys = flat_map (left_out_line s) (filter (λ key. not (is_never_missing s key)) keys)
+-- the statement that creates a table, after what is said of it
+abbrev pub table_made : Schema → List TableDesign → TableDesign → List Statement
+table_made s tables table =
+    remarks_made s table ++ create_table (quoted_name table.name) (elements_made s tables table) ∷ []
 
--- what is said of the keys beside one that is not empty: those that are not stated, or that none are known
-abbrev pub key_comment : Schema → Option (Vec AttrSet Global) → List ℕ
-key_comment s None = codes "-- further keys are not looked for\n"
-key_comment s (Some keys) = left_out_lines s (schemes_of keys.items)
-
--- what stands before a table
-abbrev pub comment : Schema → TableDesign → List ℕ
-comment s table =
-    if is_empty (attributes table.key) then codes "-- at most one row\n" else key_comment s table.other_keys
-
--- the statement that creates a table
-unfoldable pub table_text : Schema → List TableDesign → TableDesign → List ℕ
-table_text s tables table =
-    comment s table ++ codes "CREATE TABLE " ++ quoted_name table.name ++ codes " (\n"
-    ++ element_lines false (elements s tables table) ++ codes "\n);\n"
+abbrev pub tables_made : Schema → List TableDesign → List TableDesign → List Statement
+tables_made s tables made = flat_map (table_made s tables) made
 
 -- the statements that create the tables of a design, in order
 abbrev pub ddl_text : Schema → List TableDesign → List ℕ
-ddl_text s tables = flat_map (table_text s tables) tables
+ddl_text s tables = script_text (tables_made s tables tables)

@@ -11,6 +11,7 @@ use Rattle.schema_model.specs.Schemas.{Schema}
 use Rattle.fd_closure.specs.LeftSides.{IsWideScheme}
 use Rattle.key_listing.specs.declared.refusal.TheConstants.{MOST_KEYS}
 use Rattle.key_listing.specs.Listing.{AreAllKeys, AreManyKeys}
+use Rattle.optional_tables.specs.declared.keyed.KeyedScheme.{KeyedScheme}
 use Rattle.primary_keys.specs.PrimaryKeys.{IsPrimaryKey}
 use Rattle.table_names.specs.TableNames.{GivenNames, name_of_table}
 use Rattle.ddl_text.specs.declared.table.TableDesign.{TableDesign}
@@ -46,6 +47,10 @@ IsBeyondListing s scheme =
 abbrev pub AreOtherKeys : Schema → Attributes → Attributes → Option (Vec AttrSet Global) → Type 0
 AreOtherKeys s scheme key None = (IsEmpty key → ⊥) × IsBeyondListing s scheme
 AreOtherKeys s scheme key (Some keys) = (IsEmpty key × (keys.items ≡ [])) ⊎ AreListedBeside s scheme key keys.items
+
+-- the scheme of a table, and its key
+abbrev pub keyed : TableDesign → KeyedScheme
+keyed table = record { scheme = table.scheme; key = table.key }
 
 -- the other keys of a table as sets, where they are known
 abbrev pub known_keys : Option (Vec AttrSet Global) → List Attributes

@@ -1,8 +1,9 @@
 ghost use Rattle.std.specs.Prelude.{◌≡◌, ◌<◌, ◌++◌, ◌||◌, false, length, All, IfOk, OnOk};
 ghost use Rattle.attr_sets.specs.Sets.{attributes};
 ghost use Rattle.dep_model.specs.Plans.{schemes_of};
-ghost use Rattle.ddl_text.specs.Ddl.{opening, elements, element_lines, key_elements, keys_elements, unique_element, unique_elements};
-ghost use Rattle.sql_syntax.specs.Names.{is_not_empty};
+ghost use Rattle.ddl_text.specs.Ddl.{elements_made, key_made, keys_made, uniques_made};
+ghost use Rattle.sql_syntax.specs.Names.{attribute_names, is_not_empty};
+ghost use Rattle.sql_syntax.specs.Statements.{unique_key, opening, element_lines, element_text};
 
 use crate::TableDesign;
 use crate::columns::add_columns;
@@ -23,9 +24,9 @@ pub fn add_elements(
 ) -> Result<(), OutOfMemory>
     requires refs { All (λ j. j < length tables.now) table.now.refs.items }
     ensures added { OnOk result (text.new.items
-        ≡ text.old.items ++ element_lines false (elements schema.now tables.now table.now)) }
+        ≡ text.old.items ++ element_lines false (elements_made schema.now tables.now table.now)) }
 {
-    let any_before = add_columns(text, schema, table.scheme)?;
+    let any_before = add_columns(text, schema, table)?;
     let any_before = add_keys(text, any_before, schema, table)?;
     add_references(text, any_before, schema, tables, &table.refs)
 }
@@ -38,9 +39,9 @@ fn add_keys(
     table: &TableDesign,
 ) -> Result<bool, OutOfMemory>
     ensures added { OnOk result (text.new.items
-        ≡ text.old.items ++ element_lines any_before (keys_elements schema.now table.now)) }
+        ≡ text.old.items ++ element_lines any_before (keys_made schema.now table.now)) }
     ensures any_written { IfOk result (λ more. more
-        ≡ (any_before || is_not_empty (keys_elements schema.now table.now))) }
+        ≡ (any_before || is_not_empty (keys_made schema.now table.now))) }
 {
     let any_before = add_key(text, any_before, schema, table.key)?;
     match &table.other_keys {
@@ -57,9 +58,9 @@ fn add_unique_keys(
     keys: &[AttrSet],
 ) -> Result<bool, OutOfMemory>
     ensures added { OnOk result (text.new.items ≡ text.old.items
-        ++ element_lines any_before (unique_elements schema.now (schemes_of keys.now))) }
+        ++ element_lines any_before (uniques_made schema.now (schemes_of keys.now))) }
     ensures any_written { IfOk result (λ more. more
-        ≡ (any_before || is_not_empty (unique_elements schema.now (schemes_of keys.now)))) }
+        ≡ (any_before || is_not_empty (uniques_made schema.now (schemes_of keys.now)))) }
 {
     let mut any_before = any_before;
     for key in keys {
@@ -74,10 +75,9 @@ fn add_unique_keys(
 }
 
 // Adds another key.
-#[tactic(auto, unfolding(crate::specs::Ddl::unique_element))]
 fn add_unique_key(text: &mut Vec<u8>, schema: &Schema, key: AttrSet) -> Result<(), OutOfMemory>
     ensures added { OnOk result (text.new.items ≡ text.old.items
-        ++ unique_element schema.now (attributes key)) }
+        ++ element_text (unique_key (attribute_names schema.now (attributes key)))) }
 {
     add(text, b"UNIQUE (")?;
     add_name_list(text, schema, key)?;
@@ -92,9 +92,9 @@ fn add_key(
     key: AttrSet,
 ) -> Result<bool, OutOfMemory>
     ensures added { OnOk result (text.new.items
-        ≡ text.old.items ++ element_lines any_before (key_elements schema.now (attributes key))) }
+        ≡ text.old.items ++ element_lines any_before (key_made schema.now (attributes key))) }
     ensures any_written { IfOk result (λ more. more
-        ≡ (any_before || is_not_empty (key_elements schema.now (attributes key)))) }
+        ≡ (any_before || is_not_empty (key_made schema.now (attributes key)))) }
 {
     if key.is_empty() {
         return Ok(any_before);

@@ -11,12 +11,14 @@
 mod columns;
 mod designing;
 mod elements;
+mod keying;
 mod other_keys;
 mod printing;
 mod references;
 mod table;
 
 pub use designing::{DesignList, design};
+pub use keying::keyed_tables;
 pub use printing::print_ddl;
 pub use table::TableDesign;
 pub use table_names::MOST_TABLES;

@@ -1,8 +1,10 @@
 ghost use Rattle.std.specs.Prelude.{◌≡◌, ◌<◌, ◌++◌, length, All, IfOk, OnOk};
+ghost use Rattle.std.specs.List.{flat_map};
 ghost use Rattle.attr_sets.specs.Sets.{attributes};
 ghost use Rattle.dep_model.specs.Plans.{schemes_of};
 ghost use Rattle.ddl_text.specs.Designs.{ReferToEarlier};
-ghost use Rattle.ddl_text.specs.Ddl.{comment, left_out_lines, left_out_line, table_text, ddl_text};
+ghost use Rattle.ddl_text.specs.Ddl.{left_out_keys, left_out_words, remarks_made, table_made, ddl_text};
+ghost use Rattle.sql_syntax.specs.Statements.{remark, statement_text, script_text};
 
 use crate::elements::add_elements;
 use crate::other_keys::may_be_missing;
@@ -37,7 +39,8 @@ fn add_tables(
     tables: &[TableDesign],
 ) -> Result<(), OutOfMemory>
     requires earlier { ReferToEarlier tables.now }
-    ensures added { OnOk result (text.new.items ≡ text.old.items ++ ddl_text schema.now tables.now) }
+    ensures added { OnOk result (text.new.items ≡ text.old.items
+        ++ flat_map (λ table. script_text (table_made schema.now tables.now table)) tables.now) }
 {
     for table in tables {
         add_table(text, schema, tables, table)?;
@@ -54,7 +57,7 @@ fn add_table(
 ) -> Result<(), OutOfMemory>
     requires refs { All (λ j. j < length tables.now) table.now.refs.items }
     ensures added { OnOk result (text.new.items
-        ≡ text.old.items ++ table_text schema.now tables.now table.now) }
+        ≡ text.old.items ++ script_text (table_made schema.now tables.now table.now)) }
 {
     add_comment(text, schema, table)?;
     add(text, b"CREATE TABLE ")?;
@@ -66,7 +69,8 @@ fn add_table(
 
 // Adds what stands before the statement of a table.
 fn add_comment(text: &mut Vec<u8>, schema: &Schema, table: &TableDesign) -> Result<(), OutOfMemory>
-    ensures added { OnOk result (text.new.items ≡ text.old.items ++ comment schema.now table.now) }
+    ensures added { OnOk result
+        (text.new.items ≡ text.old.items ++ script_text (remarks_made schema.now table.now)) }
 {
     if table.key.is_empty() {
         return add(text, b"-- at most one row\n");
@@ -83,8 +87,9 @@ fn add_left_out_keys(
     schema: &Schema,
     keys: &[AttrSet],
 ) -> Result<(), OutOfMemory>
-    ensures added { OnOk result (text.new.items
-        ≡ text.old.items ++ left_out_lines schema.now (schemes_of keys.now)) }
+    ensures added { OnOk result (text.new.items ≡ text.old.items
+        ++ flat_map (λ key. statement_text (remark (left_out_words schema.now key)))
+        (left_out_keys schema.now (schemes_of keys.now))) }
 {
     for key in keys {
         if !may_be_missing(schema, *key) {
@@ -98,7 +103,7 @@ fn add_left_out_keys(
 // Adds the line for such a key.
 fn add_left_out_key(text: &mut Vec<u8>, schema: &Schema, key: AttrSet) -> Result<(), OutOfMemory>
     ensures added { OnOk result (text.new.items
-        ≡ text.old.items ++ left_out_line schema.now (attributes key)) }
+        ≡ text.old.items ++ statement_text (remark (left_out_words schema.now (attributes key)))) }
 {
     add(text, b"-- UNIQUE (")?;
     add_name_list(text, schema, key)?;

@@ -1,5 +1,7 @@
 ghost use Rattle.std.specs.Prelude.{◌≡◌, ◌<◌, ◌++◌, length, All, OnOk};
-ghost use Rattle.ddl_text.specs.Ddl.{element_lines, reference_element, reference_elements};
+ghost use Rattle.ddl_text.specs.Ddl.{reference_made, references_to};
+ghost use Rattle.ddl_text.specs.declared.table.TableDesign.{TableDesign};
+ghost use Rattle.sql_syntax.specs.Statements.{element_lines, element_text};
 
 use crate::TableDesign;
 use crate::elements::add_opening;
@@ -17,8 +19,8 @@ pub fn add_references(
     refs: &[u32],
 ) -> Result<(), OutOfMemory>
     requires refs { All (λ j. j < length tables.now) refs.now }
-    ensures added { OnOk result (text.new.items
-        ≡ text.old.items ++ element_lines any_before (reference_elements schema.now tables.now refs.now)) }
+    ensures added { (table : TableDesign) → OnOk result (text.new.items
+        ≡ text.old.items ++ element_lines any_before (references_to schema.now tables.now table refs.now)) }
 {
     let mut any_before = any_before;
     for j in refs {
@@ -35,7 +37,8 @@ fn add_reference(
     schema: &Schema,
     other: &TableDesign,
 ) -> Result<(), OutOfMemory>
-    ensures added { OnOk result (text.new.items ≡ text.old.items ++ reference_element schema.now other.now) }
+    ensures added { OnOk result (text.new.items
+        ≡ text.old.items ++ element_text (reference_made schema.now other.now)) }
 {
     add(text, b"FOREIGN KEY (")?;
     add_name_list(text, schema, other.key)?;

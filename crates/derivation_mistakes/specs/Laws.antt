@@ -24,4 +24,5 @@ OneListOfMistakenLines = (s : Schema) (lines : List DerivationLine) (one other :
 abbrev pub DerivesWithoutMistakes : Type 0
 DerivesWithoutMistakes = (s : Schema) (text : List ℕ) (d : Dependency)
     → Derives s text d
-    ↔ ((lines : List DerivationLine) × MeansDerivation s text lines × AreMistakenLines s [] lines [] × LastStates lines d)
+    ↔ ((lines : List DerivationLine) × MeansDerivation s text lines × AreMistakenLines s [] lines []
+    × LastStates lines d)

@@ -15,6 +15,7 @@ use Rattle.derivation_printer.specs.Printing.{derivation_text}
 -- the text of a derivation after the answer `yes` derives what its last line states, where the names of the
 -- schema are read back
 abbrev pub PrintedDerives : Type 0
-PrintedDerives = (s : Schema) (lines : List Inference) (d : Dependency) → All (IsReadBack format.Plain (naming_of s)) (names_of s)
+PrintedDerives = (s : Schema) (lines : List Inference) (d : Dependency)
+    → All (IsReadBack format.Plain (naming_of s)) (names_of s)
     → AreGiven (theory_in s) [] (lines_of lines) → Concludes (lines_of lines) d → length lines ≤ MOST_NODES
     → Derives s (codes "yes\n" ++ derivation_text s (lines_of lines)) d

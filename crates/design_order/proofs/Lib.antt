@@ -1,2 +1,2 @@
-mod GroupLemmas
+pub mod GroupLemmas
 pub mod OrderLemmas

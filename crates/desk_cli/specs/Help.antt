@@ -5,7 +5,7 @@ use Rattle.nearest_lines.specs.Nearest.{nearest}
 use Rattle.desk_texts.specs.Texts.{line}
 
 abbrev pub version_text : List ℕ
-version_text = line (codes "desk 0.12.0")
+version_text = line (codes "desk 0.13.0")
 
 abbrev pub help_text : List ℕ
 help_text =

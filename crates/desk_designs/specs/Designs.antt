@@ -1,5 +1,5 @@
 -- SQL tables of a plan: for `ddl`, and for what else refuses values that may be missing.
-use Rattle.std.specs.Prelude.{◌≡◌, List, [], Some}
+use Rattle.std.specs.Prelude.{◌≡◌, List, [], map, Some}
 use Rattle.attr_sets.specs.Attributes.{Attributes}
 use Rattle.attr_sets.specs.declared.set.AttrSet.{AttrSet}
 use Rattle.dep_model.specs.Plans.{schemes_of}
@@ -8,11 +8,12 @@ use Rattle.schema_model.specs.Schemas.{Schema}
 use Rattle.table_names.specs.TableNames.{GivenNames}
 use Rattle.ddl_text.specs.declared.table.TableDesign.{TableDesign}
 use Rattle.ddl_text.specs.Ddl.{ddl_text}
-use Rattle.ddl_text.specs.Designs.{IsDesign}
+use Rattle.ddl_text.specs.Designs.{IsDesign, keyed}
 use Rattle.ddl_text.specs.Laws.{KeysHold, OtherKeysHold, ReferencesHold}
 use Rattle.design_order.specs.Order.{IsInDesignOrder}
 use Rattle.dep_model.specs.declared.form.Form.{Form}
-use Rattle.missing_values.specs.Missing.{FindsMissing, NeverMissing}
+use Rattle.optional_tables.specs.Hindrances.{IsUnhindered}
+use Rattle.missing_values.specs.Missing.{FindsMissing}
 use Rattle.missing_values.specs.Refusals.{refusal_text}
 use Rattle.missing_values.specs.declared.refusal.MissingRefusal.{MissingRefusal}
 use Rattle.desk_responses.specs.declared.status.Status.TheVariants.{Refused, Yes}
@@ -21,7 +22,7 @@ use Rattle.desk_designs.specs.Decompositions.{WithPlanInForm}
 use Rattle.desk_designs.specs.Joins.{WithoutLoss}
 
 -- the design of a plan in its order, with the names that are given in this order; in the tables of every legal
--- relation its keys and references hold
+-- relation its keys and references hold, whatever values are missing
 pub record IsSoundDesign (schema : Schema) (names : GivenNames) (plan : List AttrSet) (tables : List TableDesign)
     : Type 0 where
   pub ordered : List AttrSet
@@ -39,21 +40,22 @@ pub record IsDesignOf (schema : Schema) (names : GivenNames) (schemes : List Att
   pub sound : IsSoundDesign schema names plan tables
 
 -- ---- missing values
--- no value of a key of the tables may be missing, and none of an attribute of two of them
-abbrev pub AreNeverMissing : Schema → GivenNames → List Attributes → Type 0
-AreNeverMissing schema names schemes =
-    (tables : List TableDesign) × IsDesignOf schema names schemes tables × NeverMissing (nullable_of schema) tables
+-- nothing keeps the tables from being read back, whatever values are missing
+abbrev pub AreReadable : Schema → GivenNames → List Attributes → Type 0
+AreReadable schema names schemes =
+    (tables : List TableDesign) × IsDesignOf schema names schemes tables
+    × IsUnhindered (nullable_of schema) (map keyed tables)
 
--- how a value that may be missing ends a command: the first found decides
+-- how values that may be missing end a command: what is found first decides
 abbrev pub MissingStops : Schema → GivenNames → List Attributes → Allowed
 MissingStops schema names schemes response =
     (tables : List TableDesign) × IsDesignOf schema names schemes tables
-    × ((refusal : MissingRefusal) × FindsMissing (nullable_of schema) tables (Some refusal)
+    × ((refusal : MissingRefusal) × FindsMissing (nullable_of schema) (map keyed tables) (Some refusal)
     × Says Refused (refusal_text schema tables refusal) response)
 
--- no value is missing where it must not be, and then the rest follows
+-- the tables can be read back, and then the rest follows
 abbrev pub WithoutMissing : Schema → GivenNames → List Attributes → Allowed → Allowed
-WithoutMissing schema names schemes = Unless (MissingStops schema names schemes) (AreNeverMissing schema names schemes)
+WithoutMissing schema names schemes = Unless (MissingStops schema names schemes) (AreReadable schema names schemes)
 
 -- ---- answers
 -- yes, with the statements that create the tables of a plan

@@ -1,3 +1,3 @@
 pub mod RuleLemmas
 mod KeyLemmas
-mod NearLemmas
+pub mod NearLemmas

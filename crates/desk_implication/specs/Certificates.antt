@@ -14,7 +14,8 @@ use Rattle.desk_implication.specs.Conclusions.{checked_text, concludes_text}
 -- yes exactly where the certificate concludes the goal, which is then implied; else no, with both
 abbrev pub Checked : Schema → Tree → Dependency → Allowed
 Checked schema tree goal response =
-    (Proves (theory_in schema) tree goal × ImpliedBy schema goal × Says Yes (checked_text (printed_names_of schema) goal) response)
+    (Proves (theory_in schema) tree goal × ImpliedBy schema goal
+    × Says Yes (checked_text (printed_names_of schema) goal) response)
     ⊎ ((Proves (theory_in schema) tree goal → ⊥)
     × ((concluded : Dependency) × Proves (theory_in schema) tree concluded
     × Says No (concludes_text (printed_names_of schema) concluded goal) response))

@@ -48,7 +48,8 @@ abbrev pub misuse_text : Misuse → List ℕ
 misuse_text (AnotherKind m) = codes "line " ++ decimal m ++ codes " is of another kind"
 misuse_text (NotTheLeftSide m k) =
     codes "the right side of " ++ decimal m ++ codes " is not the left side of " ++ decimal k
-misuse_text (LeftSidesDiffer m k) = codes "the left sides of " ++ decimal m ++ codes " and " ++ decimal k ++ codes " differ"
+misuse_text (LeftSidesDiffer m k) =
+    codes "the left sides of " ++ decimal m ++ codes " and " ++ decimal k ++ codes " differ"
 misuse_text (NotWithinLeftSide m k) =
     codes "the right side of " ++ decimal m ++ codes " does not lie within the left side of " ++ decimal k
 misuse_text (AnotherLeftSide m) = codes "the left side is not that of " ++ decimal m

@@ -32,7 +32,8 @@ HasManyKeys schema = (found : List AttrSet)
 -- refused: the universe is too wide to be searched, or has too many keys
 abbrev pub RefusesKeys : Schema → Allowed
 RefusesKeys schema response =
-    (IsTooWide (theory_in schema) × Says Refused (too_wide_text (printed_names_of schema) (universe_of schema)) response)
+    (IsTooWide (theory_in schema)
+    × Says Refused (too_wide_text (printed_names_of schema) (universe_of schema)) response)
     ⊎ ((IsTooWide (theory_in schema) → ⊥) × HasManyKeys schema × Says Refused too_many_keys_text response)
 
 -- yes, with exactly all keys of the universe, ascending; refused where the universe is too wide to be

@@ -34,7 +34,8 @@ use Rattle.desk_inputs.specs.Inputs.{schema_file}
 use Rattle.desk_cli.specs.Performs.{Answers, AnswersRules, Performs, Does}
 use Rattle.desk_inputs.specs.Readings.{known_files}
 use Rattle.desk_inputs.specs.Parts.{ArePartFiles, WithParts}
-use Rattle.desk_tables.specs.Rejoining.{JoinsTables}
+use Rattle.desk_tables.specs.Rejoining.{HaveLookUps, JoinsTables}
+use Rattle.optional_tables.specs.declared.keyed.KeyedScheme.{KeyedScheme}
 use Rattle.desk_laws.specs.Completeness.{IsYesOrNo, IsAnswered}
 use Rattle.desk_laws.proofs.CompleteLaws.{after_schema}
 use Rattle.desk_laws.proofs.OneFile.{after_file}
@@ -196,12 +197,15 @@ either_goes n tables (inl own) first second = within_goes n tables own first
 either_goes n tables (inr last) first second = within_goes n (tables_from_last tables) last second
 
 joins_tables : (s : Schema) (tables : List PartialRelation) (response : ResponseValue)
+    → ((keyed : List KeyedScheme) (counts : List ℕ) → HaveLookUps s tables keyed counts → ⊥)
     → Covers (width_of s) (plan_of_tables tables) → KeepsInEither (width_of s) tables → JoinsTables s tables response
     → IsYesOrNo response.status
-joins_tables s tables response covers small (inl (rows, is, says)) = inl (ap (λ (a : ResponseValue). a.status) says)
-joins_tables s tables response covers small (inr (NotCovered a, first, says)) = absurd (first.uncovered (covers a first.within))
-joins_tables s tables response covers small (inr (TooManyRows k, large, says)) =
-    absurd (either_goes (width_of s) tables small (k, large.1) large.2)
+joins_tables s tables response none covers small (inl (keyed, (counts, have, looks_up))) = absurd (none keyed counts have)
+joins_tables s tables response none covers small (inr (not_so, inl (rows, is, says))) = inl (ap (λ (a : ResponseValue). a.status) says)
+joins_tables s tables response none covers small (inr (not_so, inr (NotCovered a, first, says))) =
+    absurd (first.uncovered (covers a first.within))
+joins_tables s tables response none covers small (inr (not_so, inr (TooManyRows k, large, says))) =
+    absurd (either_goes (width_of s) tables small (k, large.1.0) large.1.1)
 
 rejoin_asks : (files : Files) (name : List ℕ) (names : List (List ℕ)) (looks : Looks) (response : ResponseValue) → are_one_to_64 names ≡ true
     → Answers looks (known_files files) (codes "rejoin" ∷ name ∷ names) response
@@ -211,11 +215,12 @@ rejoin_asks files name names looks response within_limit answered = (rw within_l
 
 pub rejoin_answered : (files : Files) (name : List ℕ) (names : List (List ℕ)) (schema : Schema) (parts : List PartialRows)
     → IsFile schema_file (known_files files) name schema → are_one_to_64 names ≡ true → ArePartFiles (known_files files) schema names parts
+    → ((keyed : List KeyedScheme) (counts : List ℕ) → HaveLookUps schema (tables_of parts) keyed counts → ⊥)
     → Covers (width_of schema) (plan_of_tables (tables_of parts))
     → KeepsInEither (width_of schema) (tables_of parts)
     → IsAnswered files (codes "rejoin" ∷ name ∷ names)
-rejoin_answered files name names schema parts file within_limit are covers small looks response answered =
-    joins_tables schema (tables_of parts) response covers small
+rejoin_answered files name names schema parts file within_limit are none covers small looks response answered =
+    joins_tables schema (tables_of parts) response none covers small
     (after_parts files schema names parts (JoinsTables schema) response are
     (after_schema files name schema
     (λ r. WithParts (known_files files) r names (λ others. JoinsTables r (tables_of others))) response file

@@ -1,5 +1,5 @@
 -- What `ddl` prints is imported: what is read of designs, said of the answers of both commands.
-use Rattle.std.proofs.Common.{◌≡◌, ◌<◌, ◌≤◌, ◌∙◌, ◌++◌, ℕ, List, [], ◌∷◌, length, Some, None, get_or, ◌+◌, inl, inr, refl, sym, ap, subst, arith}
+use Rattle.std.proofs.Common.{◌≡◌, ◌<◌, ◌≤◌, ◌∙◌, ◌++◌, ℕ, List, [], ◌∷◌, length, Some, get_or, ◌+◌, inl, inr, refl, sym, ap, subst, arith}
 use Rattle.std.proofs.lemmas.List.{length-map, length-take-le}
 use Rattle.std.proofs.lemmas.Bool.{cases_Bool, ne_eqb}
 use Rattle.std.specs.List.{flat_map}
@@ -7,24 +7,21 @@ use Rattle.std.specs.Prelude.{All, codes, filter, not, slice_get}
 use Rattle.attr_sets.specs.Attributes.{Attributes}
 use Rattle.attr_sets.specs.Sets.{attributes}
 use Rattle.attr_sets.specs.declared.set.AttrSet.{AttrSet}
-use Rattle.ddl_text.specs.Ddl.{comment, ddl_text, is_empty, is_never_missing, key_comment, left_out_line, table_text}
+use Rattle.ddl_text.specs.Ddl.{ddl_text}
 use Rattle.ddl_text.specs.declared.table.TableDesign.{TableDesign}
 use Rattle.dep_model.specs.Plans.{IsPlan, schemes_of}
-use Rattle.schema_model.specs.Schemas.{nullable_of, theory_of, width_of}
+use Rattle.schema_model.specs.Schemas.{theory_of, width_of}
 use Rattle.schema_model.specs.Schemas.{Schema}
 use Rattle.implication_laws.proofs.ImplyingLaws.{refused_not_yes, no_not_yes}
 use Rattle.design_order.proofs.OrderLemmas.{order-plan}
 use Rattle.import_laws.proofs.LawLemmas.{table_imported}
 use Rattle.import_laws.specs.PrintedDesigns.{IsPrintedDesign}
 use Rattle.import_laws.specs.ReadTables.{named}
-use Rattle.lexer.specs.Lines.{without_mark}
-use Rattle.missing_values.specs.Missing.{NeverMissing}
 use Rattle.plan_printer.specs.NamedPlans.{AreApart, NamedSchemes}
 use Rattle.dep_model.specs.declared.form.Form.{Form}
 use Rattle.dep_model.specs.declared.form.Form.TheVariants.{Third, Bcnf, Fourth}
 use Rattle.plan_grammar.proofs.PlanLaws.{plan_names_apart}
 use Rattle.plan_laws.proofs.FormPlans.{form_is_plan}
-use Rattle.plan_laws.proofs.MissingAnswers.{finds_there, one_design_of}
 use Rattle.plan_laws.proofs.NameLaws.{none_given}
 use Rattle.plan_laws.proofs.OrderedNames.{stay_apart}
 use Rattle.plan_laws.proofs.PlanLengths.{form_length, ordered_length}
@@ -42,7 +39,7 @@ use Rattle.table_names.specs.TableNames.{GivenNames, name_of_table, table_name}
 use Rattle.table_names.specs.declared.numbered.TheConstants.{MOST_TABLES}
 use Rattle.desk_cli.specs.Performs.{Answers}
 use Rattle.desk_designs.specs.Decompositions.{FormStops, IsPlanInForm, SplitStops, WithPlanInForm}
-use Rattle.desk_designs.specs.Designs.{AreNeverMissing, IsDesignOf, IsSoundDesign, MissingStops, WritesPlan, WritesSchemes, WritesTables}
+use Rattle.desk_designs.specs.Designs.{IsDesignOf, IsSoundDesign, MissingStops, WritesPlan, WritesSchemes, WritesTables}
 use Rattle.desk_designs.specs.Joins.{LossStops, WithoutLoss}
 use Rattle.desk_designs.specs.NormalForms.{form_word}
 use Rattle.desk_imports.specs.Imports.{ImportsTable}
@@ -60,6 +57,7 @@ use Rattle.desk_laws.specs.Imported.{AreImported, FormIsImported, IsAskedByName,
 use Rattle.desk_laws.proofs.ImportLaws.{postgres_asks, sql_answer, sqlite_asks}
 use Rattle.desk_laws.proofs.NumberedNames.{number_asks}
 use Rattle.desk_laws.proofs.OneInput.{tables_plan}
+use Rattle.desk_laws.proofs.PlainFronts.{design_unmarked}
 use Rattle.desk_laws.proofs.StopLemmas.{file_says, schema_says, status_is}
 use Rattle.desk_laws.proofs.TableLaws.{WritesRequired, ddl_asks, ddl_plan_asks}
 
@@ -91,47 +89,6 @@ loss_says s schemes response says_yes (inl (fits, lossy, (rows, shows, says))) =
     no_not_yes response says_yes (status_is response _ says)
 loss_says s schemes response says_yes (inr large) = refused_not_yes response says_yes (status_is response _ large.1)
 
--- ---- the text of a design has no byte-order mark
--- a text begins with a byte of ASCII
-abbrev HasPlainFront : List ℕ → Type 0
-HasPlainFront text = (first : ℕ) × (rest : List ℕ) × (text ≡ first ∷ rest) × (first < 128)
-
-unmarked : (text : List ℕ) → HasPlainFront text → without_mark text ≡ text
-unmarked text (first, rest, is, plain) =
-    subst (λ (t : List ℕ). without_mark t ≡ t) (sym is) (no_mark first rest plain)
-  where
-    no_mark : (first : ℕ) (rest : List ℕ) → first < 128 → without_mark (first ∷ rest) ≡ first ∷ rest
-    no_mark first rest plain = let other = ne_eqb 239 first (λ same. omega (arith, plain, same)) in (rw other refl)
-
-front_more : (text more : List ℕ) → HasPlainFront text → HasPlainFront (text ++ more)
-front_more text more (first, rest, is, plain) = (first, rest ++ more, ap (λ (t : List ℕ). t ++ more) is, plain)
-
-left_out_front : (s : Schema) (keys : List Attributes)
-    → HasPlainFront (flat_map (left_out_line s) keys ++ codes "CREATE TABLE ")
-unfolding left_out_line
-left_out_front s [] = (67, _, refl, omega arith)
-left_out_front s (key ∷ keys) = (45, _, refl, omega arith)
-
-comment_front : (s : Schema) (table : TableDesign) → HasPlainFront (comment s table ++ codes "CREATE TABLE ")
-comment_front s table = elim (cases_Bool (is_empty (attributes table.key))) [
-  | inl empty ↦ rw empty (45, _, refl, omega arith)
-  | inr some ↦ rw some (elim table.other_keys as (λ keys. HasPlainFront (key_comment s keys ++ codes "CREATE TABLE ")) [
-    | None ↦ (45, _, refl, omega arith)
-    | Some keys ↦ left_out_front s (filter (λ key. not (is_never_missing s key)) (schemes_of keys.items))
-  ])
-]
-
-table_front : (s : Schema) (tables : List TableDesign) (table : TableDesign) → HasPlainFront (table_text s tables table)
-unfolding table_text
-table_front s tables table = front_more _ _ (front_more _ _ (front_more _ _ (front_more _ _ (comment_front s table))))
-
-design_unmarked : (s : Schema) (tables : List TableDesign) (k : ℕ) (table : TableDesign) → slice_get tables k ≡ Some table
-    → without_mark (ddl_text s tables) ≡ ddl_text s tables
-design_unmarked s [] k table here = cc
-design_unmarked s (t ∷ ts) k table here =
-    unmarked (ddl_text s (t ∷ ts))
-    (front_more (table_text s (t ∷ ts) t) (flat_map (table_text s (t ∷ ts)) ts) (table_front s (t ∷ ts) t))
-
 -- ---- what is imported
 import_asks : (files : Files) (dialect : Dialect) (file table : List ℕ) (looks : Looks) (response : ResponseValue)
     → Answers looks (known_files files) (import_words dialect file table) response
@@ -139,11 +96,11 @@ import_asks : (files : Files) (dialect : Dialect) (file table : List ℕ) (looks
 import_asks files Sqlite file table looks response answered = sqlite_asks files file table looks response answered
 import_asks files Postgres file table looks response answered = postgres_asks files file table looks response answered
 
--- the tables of a sound design of a plan, of which no value is missing where it must not be
+-- the tables of a sound design of a plan
 module _ (s : Schema) (bytes : List ℕ) (means : MeansSchema bytes (declarations_of s)) (names : GivenNames)
     (apart : AreApart names) (plan : List AttrSet) (valid : IsPlan (width_of s) (schemes_of plan))
     (tables : List TableDesign) (sound : IsSoundDesign s names plan tables)
-    (never : NeverMissing (nullable_of s) tables) (few : length tables ≤ MOST_TABLES) where
+    (few : length tables ≤ MOST_TABLES) where
   design_imported : (looks : Looks) (files : Files) (file : List ℕ) → bytes_of_file files file ≡ Some (ddl_text s tables)
       → length (ddl_text s tables) ≤ MOST_SQL_BYTES → AreImported looks files file s tables
   design_imported looks files file kept short dialect k table response types here by_name answered =
@@ -157,7 +114,7 @@ module _ (s : Schema) (bytes : List ℕ) (means : MeansSchema bytes (declaration
         apart = apart;
         limit = few;
       } in
-      let (text, lines, reads, meaning) = table_imported dialect s names ordered tables k table printed never here in
+      let (text, lines, reads, meaning) = table_imported dialect s names ordered tables k table printed here in
       let is : IsFile sql_file (known_files files) file (ddl_text s tables) =
       record { bytes = ddl_text s tables; content = (kept, short); means = refl } in (
         text,
@@ -167,12 +124,6 @@ module _ (s : Schema) (bytes : List ℕ) (means : MeansSchema bytes (declaration
             (import_asks files dialect file table.name looks response answered),
         meaning,
       )
-
--- of the designs of a plan no value is missing in one where it must not be, if none is in another
-never_there : (s : Schema) (names : GivenNames) (schemes : List Attributes) (tables : List TableDesign)
-    → IsDesignOf s names schemes tables → AreNeverMissing s names schemes → NeverMissing (nullable_of s) tables
-never_there s names schemes tables design (others, other, never) =
-    finds_there (nullable_of s) others tables (one_design_of s names schemes others tables other design) None never
 
 -- of the tables of a plan text there are no more than have names
 few : (s : Schema) (text : List ℕ) (p : NamedSchemes) → MeansTables s text p → (plan : List AttrSet)
@@ -205,9 +156,9 @@ kept_as files file text printed is kept = subst (λ (t : List ℕ).
 module _ (later : Looks) (before after : Files) (schema planned file : List ℕ) (printed : ResponseValue)
     (says_yes : printed.status ≡ Yes) (kept : IsKeptInFile after file printed) where
   written : (s : Schema) → IsFile schema_file (known_files before) schema s → (p : NamedSchemes)
-      → IsFile (plan_file s) (known_files before) planned p → AreNeverMissing s p.names p.schemes
+      → IsFile (plan_file s) (known_files before) planned p
       → WritesSchemes s p.names p.schemes printed → PlanIsImported later before after schema planned file
-  written s is p is_plan never (plan, same, (tables, sound, says)) =
+  written s is p is_plan (plan, same, (tables, sound, says)) =
       let design : IsDesignOf s p.names p.schemes tables = record { plan = plan; same = same; sound = sound } in
       let held = kept_as after file (ddl_text s tables) printed (ap (λ (a : ResponseValue). a.text) says) kept in
       record {
@@ -224,22 +175,22 @@ module _ (later : Looks) (before after : Files) (schema planned file : List ℕ)
             plan
             (subst (λ (schemes : List Attributes). IsPlan (width_of s) schemes) (sym same)
             (tables_plan s is_plan.bytes p is_plan.means))
-            tables sound (never_there s p.names p.schemes tables design never) (few s is_plan.bytes p is_plan.means plan same tables sound)
+            tables sound (few s is_plan.bytes p is_plan.means plan same tables sound)
             later after file held.0 held.1;
       }
 
   after_loss : (s : Schema) → IsFile schema_file (known_files before) schema s → (p : NamedSchemes)
-      → IsFile (plan_file s) (known_files before) planned p → AreNeverMissing s p.names p.schemes
+      → IsFile (plan_file s) (known_files before) planned p
       → WithoutLoss s p.schemes (WritesSchemes s p.names p.schemes) printed
       → PlanIsImported later before after schema planned file
-  after_loss s is p is_plan never (inl stops) = absurd (loss_says s p.schemes printed says_yes stops)
-  after_loss s is p is_plan never (inr (lossless, writes)) = written s is p is_plan never writes
+  after_loss s is p is_plan (inl stops) = absurd (loss_says s p.schemes printed says_yes stops)
+  after_loss s is p is_plan (inr (lossless, writes)) = written s is p is_plan writes
 
   after_missing : (s : Schema) → IsFile schema_file (known_files before) schema s → (p : NamedSchemes)
       → IsFile (plan_file s) (known_files before) planned p → WritesPlan s p.names p.schemes printed
       → PlanIsImported later before after schema planned file
   after_missing s is p is_plan (inl stops) = absurd (missing_says s p.names p.schemes printed says_yes stops)
-  after_missing s is p is_plan (inr (never, more)) = after_loss s is p is_plan never more
+  after_missing s is p is_plan (inr (readable, more)) = after_loss s is p is_plan more
 
   after_plan : (s : Schema) → IsFile schema_file (known_files before) schema s
       → WithFile (plan_file s) (known_files before) planned (λ p. WritesPlan s p.names p.schemes) printed
@@ -286,9 +237,9 @@ asked_by_name s plan tables sound few k table low =
 module _ (later : Looks) (before after : Files) (form : Form) (schema file : List ℕ) (printed : ResponseValue)
     (says_yes : printed.status ≡ Yes) (kept : IsKeptInFile after file printed) where
   form_written : (s : Schema) → IsFile schema_file (known_files before) schema s → (plan : List AttrSet)
-      → IsPlanInForm s form plan → AreNeverMissing s [] (schemes_of plan) → WritesTables s [] plan printed
+      → IsPlanInForm s form plan → WritesTables s [] plan printed
       → FormIsImported later before after form schema file
-  form_written s is plan in_form never (tables, sound, says) =
+  form_written s is plan in_form (tables, sound, says) =
       let design : IsDesignOf s [] (schemes_of plan) tables = record { plan = plan; same = refl; sound = sound } in
       let held = kept_as after file (ddl_text s tables) printed (ap (λ (a : ResponseValue). a.text) says) kept in
       record {
@@ -300,13 +251,13 @@ module _ (later : Looks) (before after : Files) (form : Form) (schema file : Lis
         design = sound;
         named = asked_by_name s plan tables sound (form_few s form plan in_form tables sound);
         imported = design_imported s is.bytes is.means [] none_given plan (form_is_plan s form plan in_form) tables
-            sound (never_there s [] (schemes_of plan) tables design never) (form_few s form plan in_form tables sound) later after file held.0 held.1;
+            sound (form_few s form plan in_form tables sound) later after file held.0 held.1;
       }
 
   form_missing : (s : Schema) → IsFile schema_file (known_files before) schema s → (plan : List AttrSet)
       → IsPlanInForm s form plan → WritesRequired s plan printed → FormIsImported later before after form schema file
   form_missing s is plan in_form (inl stops) = absurd (missing_says s [] (schemes_of plan) printed says_yes stops)
-  form_missing s is plan in_form (inr (never, writes)) = form_written s is plan in_form never writes
+  form_missing s is plan in_form (inr (readable, writes)) = form_written s is plan in_form writes
 
   form_found : (s : Schema) → IsFile schema_file (known_files before) schema s
       → WithPlanInForm s form (WritesRequired s) printed → FormIsImported later before after form schema file

@@ -28,4 +28,5 @@ mod AcceptedDerivations
 mod ConfirmedCovers
 mod NumberedNames
 mod ImportedLaws
+mod PlainFronts
 mod OneWords

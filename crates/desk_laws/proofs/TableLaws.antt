@@ -1,5 +1,5 @@
 -- Where the inputs of a command on forms, plans or tables have their meaning, it answers yes or no.
-use Rattle.std.proofs.Common.{◌≡◌, ◌<◌, ◌≤◌, ◌-◌, ◌^◌, ◌⊎◌, ℕ, true, List, [], ◌∷◌, length, inl, inr, sym, ap, refl, subst, arith}
+use Rattle.std.proofs.Common.{◌≡◌, ◌<◌, ◌≤◌, ◌-◌, ◌^◌, ◌⊎◌, ℕ, true, List, [], ◌∷◌, map, length, inl, inr, sym, ap, refl, subst, arith}
 use Rattle.std.specs.Prelude.{codes, All, Contains, Some}
 use Rattle.std.proofs.lemmas.List.Elements.{All-contains, Contains-append_right}
 use Rattle.std.proofs.Math.Nat.{pow-le-pow_right}
@@ -14,10 +14,8 @@ use Rattle.schema_model.specs.Schemas.{width_of, theory_of, nullable_of, theory_
 use Rattle.dep_model.specs.Tuples.{Relation}
 use Rattle.schema_model.specs.Schemas.{Schema}
 use Rattle.fd_closure.specs.LeftSides.{left_sides, IsWideScheme}
-use Rattle.ddl_text.specs.declared.table.TableDesign.{TableDesign}
-use Rattle.missing_values.specs.Missing.{FindsMissing}
-use Rattle.missing_values.specs.declared.refusal.MissingRefusal.{MissingRefusal}
-use Rattle.missing_values.specs.declared.refusal.MissingRefusal.TheVariants.{InKey, InTwo}
+use Rattle.ddl_text.specs.Designs.{keyed}
+use Rattle.missing_values.proofs.FindingLemmas.{found_missing}
 use Rattle.dep_model.specs.declared.form.Form.{Form}
 use Rattle.dep_model.specs.declared.form.Form.TheVariants.{Third, Bcnf, Fourth}
 use Rattle.split_forms.proofs.SplitLemmas.{too_many_short}
@@ -37,6 +35,7 @@ use Rattle.desk_designs.specs.Joins.{WithoutLoss, IsTooLarge}
 use Rattle.desk_designs.specs.Keeping.{JudgesKeeping}
 use Rattle.desk_tables.specs.Legality.{WithLegal}
 use Rattle.desk_tables.specs.Migrations.{GivesTables, MigratesPlan, MigratesRows, Samples}
+use Rattle.desk_tables.specs.Tidiness.{WithTidy}
 use Rattle.desk_tables.specs.Overwriting.{KeepsFiles, MigratesHere, MigratesPlanHere}
 use Rattle.desk_words.specs.Numbers.{is_count}
 use Rattle.lexer.specs.Bytes.{number_of}
@@ -73,15 +72,10 @@ after_loss s plan rest response small go (inl (inl (fits, lossy, found))) = inr 
 after_loss s plan rest response small go (inl (inr (large, says))) = absurd (small large)
 after_loss s plan rest response small go (inr (lossless, more)) = go more
 
-found_nowhere : (nullable : Attributes) (tables : List TableDesign) (refusal : MissingRefusal)
-    → ((a : ℕ) → nullable a ≡ true → ⊥) → FindsMissing nullable tables (Some refusal) → ⊥
-found_nowhere nullable tables (InKey a k) none finds = none a finds.1.here.missing
-found_nowhere nullable tables (InTwo a j k) none finds = none a finds.1.here.missing
-
 pub after_missing : (s : Schema) (names : GivenNames) (plan : List Attributes) (rest : Allowed) (response : ResponseValue) → RequiresAll s
     → (rest response → IsYesOrNo response.status) → WithoutMissing s names plan rest response → IsYesOrNo response.status
 after_missing s names plan rest response none go (inl (tables, design, found)) =
-    absurd (found_nowhere (nullable_of s) tables found.0 none found.1)
+    let (a, missing) = found_missing (nullable_of s) (map keyed tables) found.0 found.1 in absurd (none a missing)
 after_missing s names plan rest response none go (inr (never, more)) = go more
 
 after_legal : (r : Schema) (rows : Relation) (rest : Allowed) (response : ResponseValue)
@@ -89,10 +83,16 @@ after_legal : (r : Schema) (rows : Relation) (rest : Allowed) (response : Respon
 after_legal r rows rest response go (inl (broken, found)) = inr (ap (λ (a : ResponseValue). a.status) found.2)
 after_legal r rows rest response go (inr (legal, more)) = go more
 
+after_tidy : (r : Schema) (plan : List Attributes) (rows : Relation) (rest : Allowed) (response : ResponseValue)
+    → (rest response → IsYesOrNo response.status) → WithTidy r plan rows rest response → IsYesOrNo response.status
+after_tidy r plan rows rest response go (inl (design, keyed, (lost, (found, are, says)))) = inr (ap (λ (a : ResponseValue). a.status) says)
+after_tidy r plan rows rest response go (inr (tidy, more)) = go more
+
 -- ---- answers
 pub MigratesRows-yes_or_no : (r : Schema) (names : GivenNames) (plan : List Attributes) (rows : Relation) (response : ResponseValue) → MigratesRows r names plan rows response → IsYesOrNo response.status
 MigratesRows-yes_or_no r names plan rows response migrates =
-    after_legal r rows (GivesTables r names plan rows) response (λ found. inl (ap (λ (a : ResponseValue). a.status) found.2)) migrates
+    after_legal r rows (WithTidy r plan rows (GivesTables r names plan rows)) response
+    (after_tidy r plan rows (GivesTables r names plan rows) response (λ found. inl (ap (λ (a : ResponseValue). a.status) found.2))) migrates
 
 WritesTables-yes_or_no : (r : Schema) (names : GivenNames) (plan : List AttrSet) (response : ResponseValue) → WritesTables r names plan response → IsYesOrNo response.status
 WritesTables-yes_or_no r names plan response found = inl (ap (λ (a : ResponseValue). a.status) found.2)

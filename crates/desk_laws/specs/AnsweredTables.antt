@@ -21,6 +21,8 @@ use Rattle.plan_printer.specs.NamedPlans.{NamedSchemes}
 use Rattle.desk_outside.specs.Files.{Files}
 use Rattle.near_rules.specs.NearRules.{IsTriedWhole}
 use Rattle.desk_discovery.specs.Discoveries.{HasTooManyLeftSides}
+use Rattle.optional_tables.specs.declared.keyed.KeyedScheme.{KeyedScheme}
+use Rattle.desk_tables.specs.Rejoining.{HaveLookUps}
 use Rattle.desk_tables.specs.declared.rejoining.TheConstants.{MOST_JOINED_ROWS}
 use Rattle.desk_inputs.specs.FileKinds.{IsFile}
 use Rattle.desk_inputs.specs.Headed.{headed_file, imported_file, whole_file}
@@ -242,15 +244,16 @@ ImportSqlIsAnsweredPostgres =
     → imported_text Postgres wanted (without_mark text) ≡ Ok printed
     → IsAnswered files (codes "import" ∷ codes "postgres" ∷ file ∷ table ∷ [])
 
--- `rejoin` is answered where the schema file means a schema, from one to 64 files are tables, each attribute has
--- a column in one of them, and in their own order or from the last the joins of the first tables keep within their
--- limit
+-- `rejoin` is answered where the schema file means a schema, from one to 64 files are tables, no readable design that has
+-- an optional one, each attribute has a column in one of them, and in their own order or from the last the joins of the
+-- first tables keep within their limit
 abbrev pub RejoinIsAnswered : Type 0
 RejoinIsAnswered =
     (files : Files) (name : List ℕ) (names : List (List ℕ)) (schema : Schema)
     (parts : List PartialRows)
     → IsFile schema_file (known_files files) name schema → are_one_to_64 names ≡ true
     → ArePartFiles (known_files files) schema names parts
+    → ((keyed : List KeyedScheme) (counts : List ℕ) → HaveLookUps schema (tables_of parts) keyed counts → ⊥)
     → Covers (width_of schema) (plan_of_tables (tables_of parts))
     → IsWithinLimit (width_of schema) MOST_JOINED_ROWS (tables_of parts)
     ⊎ IsWithinLimit (width_of schema) MOST_JOINED_ROWS (tables_from_last (tables_of parts))

@@ -39,51 +39,20 @@ pub fn answered_calls_end<F: FileSource, T: Destination, M: FolderMaker, G: Fold
         → (status : Status) → result ≡ Ok status → IsYesOrNo status }
 {}
 
-/// `implies` is answered where the schema file means a schema and the goal a dependency.
-pub fn implies_is_answered()
-    ensures law { ImpliesIsAnswered }
-{}
-
-/// `check proof` is answered where also the certificate file spells a tree.
-pub fn check_proof_is_answered()
-    ensures law { CheckProofIsAnswered }
-{}
-
-/// `check rows` is answered where the schema file means a schema and the CSV file rows.
-pub fn check_rows_is_answered()
-    ensures law { CheckRowsIsAnswered }
-{}
-
-/// `check join` is answered where the schema file means a schema, the plan file a plan, and the chase
-/// comes to no tableau of too many rows.
-pub fn check_join_is_answered()
-    ensures law { CheckJoinIsAnswered }
-{}
-
-/// `cover` is answered where the schema file means a schema.
-pub fn cover_is_answered()
-    ensures law { CoverIsAnswered }
-{}
-
-/// `cover canonical` is answered where the schema file means a schema.
-pub fn cover_canonical_is_answered()
-    ensures law { CoverCanonicalIsAnswered }
-{}
-
-/// `keys` is answered where also the universe is not too wide, and has no more keys than are listed.
-pub fn keys_is_answered()
-    ensures law { KeysIsAnswered }
-{}
-
-/// `synthesize` is answered where the schema file means a schema.
-pub fn synthesize_is_answered()
-    ensures law { SynthesizeIsAnswered }
-{}
-
-/// `help`, `--help`, `-h` and `--version` are answered over any files.
-pub fn help_is_answered()
+/// Where the schema file means a schema, the other files and the goal have their meaning, and no limit is met:
+/// `implies`, `check proof`, `check rows`, `check join`, `cover`, `cover canonical`, `keys` and `synthesize` are
+/// answered; and `help`, `--help`, `-h` and `--version` over any files.
+pub fn requests_are_answered()
+    ensures implies { ImpliesIsAnswered }
+    ensures check_proof { CheckProofIsAnswered }
+    ensures check_rows { CheckRowsIsAnswered }
+    ensures check_join { CheckJoinIsAnswered }
+    ensures cover { CoverIsAnswered }
+    ensures canonical_cover { CoverCanonicalIsAnswered }
+    ensures keys { KeysIsAnswered }
+    ensures synthesize { SynthesizeIsAnswered }
     ensures help { HelpIsAnsweredHelp }
-    ensures long { HelpIsAnsweredLong }
+    ensures long_help { HelpIsAnsweredLong }
     ensures dash_h { HelpIsAnsweredDashH }
     ensures version { HelpIsAnsweredVersion }
 {}

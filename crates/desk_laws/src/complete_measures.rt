@@ -3,18 +3,11 @@
 
 ghost use Rattle.desk_laws.specs.AnsweredMeasures.{MeasureIsAnswered, OffencesIsAnsweredByClass, OffencesIsAnsweredByRow, KeptIsAnswered};
 
-/// `measure` is answered where the schema file means a schema and the CSV file rows, of whatever values.
-pub fn measure_is_answered()
-    ensures law { MeasureIsAnswered }
-{}
-
-/// `offences` is answered where the schema file means a schema and the CSV file rows.
-pub fn offences_is_answered()
-    ensures by_class { OffencesIsAnsweredByClass }
-    ensures by_row { OffencesIsAnsweredByRow }
-{}
-
-/// `kept` is answered where also no dependency is multivalued.
-pub fn kept_is_answered()
-    ensures law { KeptIsAnswered }
+/// `measure` is answered where the schema file means a schema and the CSV file rows, of whatever values; `offences`
+/// where these are rows of its columns; and `kept` where also no dependency is multivalued.
+pub fn measures_are_answered()
+    ensures measure { MeasureIsAnswered }
+    ensures offences_by_class { OffencesIsAnsweredByClass }
+    ensures offences_by_row { OffencesIsAnsweredByRow }
+    ensures kept { KeptIsAnswered }
 {}

@@ -4,44 +4,17 @@
 
 ghost use Rattle.desk_laws.specs.AnsweredQuestions.{BasisIsAnswered, ClosureIsAnswered, ProjectIsAnswered, CheckKeyIsAnswered, KeysOfPlanIsAnswered, CheckSameIsAnswered, CheckCoverIsAnswered, CheckCoverCanonicalIsAnswered};
 
-/// `basis` is answered where the schema file means a schema and the text a set.
-pub fn basis_is_answered()
-    ensures law { BasisIsAnswered }
-{}
-
-/// `closure` is answered where the schema file means a schema and the text a set.
-pub fn closure_is_answered()
-    ensures law { ClosureIsAnswered }
-{}
-
-/// `project` is answered where the schema file means a schema and the text a set, which has an attribute, is
-/// not too wide, and inside which no more dependencies than are listed have a least left side.
-pub fn project_is_answered()
-    ensures law { ProjectIsAnswered }
-{}
-
-/// `check key` is answered where the schema file means a schema and the text a set.
-pub fn check_key_is_answered()
-    ensures law { CheckKeyIsAnswered }
-{}
-
-/// `keys` of a plan is answered where the schema file means a schema, the plan file a plan, and each scheme
-/// of the plan is not too wide and has no more keys than are listed.
-pub fn keys_of_plan_is_answered()
-    ensures law { KeysOfPlanIsAnswered }
-{}
-
-/// `check same` is answered where the two schema files mean schemas over the same names.
-pub fn check_same_is_answered()
-    ensures law { CheckSameIsAnswered }
-{}
-
-/// `check cover` is answered where the two schema files mean schemas over the same names.
-pub fn check_cover_is_answered()
-    ensures law { CheckCoverIsAnswered }
-{}
-
-/// `check cover canonical` is answered where the two schema files mean schemas over the same names.
-pub fn check_cover_canonical_is_answered()
-    ensures law { CheckCoverCanonicalIsAnswered }
+/// `basis`, `closure`, `project` and `check key` are answered where the schema file means a schema and the text a
+/// set, of which `project` wants an attribute, and both no limit; `keys` of a plan where the plan file means a plan
+/// within the limits; and `check same`, `check cover` and `check cover canonical` where two schema files mean schemas
+/// over the same names.
+pub fn questions_are_answered()
+    ensures basis { BasisIsAnswered }
+    ensures closure { ClosureIsAnswered }
+    ensures project { ProjectIsAnswered }
+    ensures check_key { CheckKeyIsAnswered }
+    ensures keys_of_plan { KeysOfPlanIsAnswered }
+    ensures check_same { CheckSameIsAnswered }
+    ensures check_cover { CheckCoverIsAnswered }
+    ensures check_canonical_cover { CheckCoverCanonicalIsAnswered }
 {}

@@ -4,13 +4,8 @@
 ghost use Rattle.desk_laws.specs.AnsweredReferences.{CheckReferencesIsAnswered, DiscoverReferencesIsAnswered};
 
 /// `discover references` is answered by yes where from one to 64 CSV files each have a header that names its columns,
-/// and rows under it.
-pub fn discover_references_is_answered()
-    ensures law { DiscoverReferencesIsAnswered }
-{}
-
-/// `check references` is answered where two CSV files each have a header that names its columns, and rows under it,
-/// and the two words state as many of these columns.
-pub fn check_references_is_answered()
-    ensures law { CheckReferencesIsAnswered }
+/// and rows under it; `check references` where two have, and the two words state as many of these columns.
+pub fn references_are_answered()
+    ensures discover { DiscoverReferencesIsAnswered }
+    ensures check { CheckReferencesIsAnswered }
 {}

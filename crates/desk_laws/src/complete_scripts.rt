@@ -4,27 +4,14 @@
 
 ghost use Rattle.desk_laws.specs.AnsweredScripts.{SqlCheckIsAnswered, SqlMeasureIsAnswered, SqlMigrateIsAnsweredInForm, SqlMigrateIsAnsweredPlan, DrawIsAnsweredInForm, DrawIsAnsweredPlan};
 
-/// `sql check` is answered where the schema file means a schema and the word names a table.
-pub fn sql_check_is_answered()
-    ensures law { SqlCheckIsAnswered }
-{}
-
-/// `sql measure` is answered where the schema file means a schema and the word names a table.
-pub fn sql_measure_is_answered()
-    ensures law { SqlMeasureIsAnswered }
-{}
-
-/// `sql migrate` is answered where the schema file means a schema of which no value may be missing, the
-/// word names a table, and a plan in the form is found within the limits, or the plan file means a plan
-/// whose chase keeps within its limit, and that names no table as the word does.
-pub fn sql_migrate_is_answered()
-    ensures in_form { SqlMigrateIsAnsweredInForm }
-    ensures plan { SqlMigrateIsAnsweredPlan }
-{}
-
-/// `draw` is answered where the schema file means a schema, and a plan in the form is found within the
-/// limits, or the plan file means a plan.
-pub fn draw_is_answered()
-    ensures in_form { DrawIsAnsweredInForm }
-    ensures plan { DrawIsAnsweredPlan }
+/// `sql check` and `sql measure` are answered where the schema file means a schema and the word names a table; `sql
+/// migrate` where also its design can be read back, and names no table as the word does; and `draw` where a plan in the
+/// form is found within the limits, or the plan file means a plan.
+pub fn scripts_are_answered()
+    ensures check { SqlCheckIsAnswered }
+    ensures measure { SqlMeasureIsAnswered }
+    ensures migrate_in_form { SqlMigrateIsAnsweredInForm }
+    ensures migrate_by_plan { SqlMigrateIsAnsweredPlan }
+    ensures draw_in_form { DrawIsAnsweredInForm }
+    ensures draw_plan { DrawIsAnsweredPlan }
 {}

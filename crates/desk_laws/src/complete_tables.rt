@@ -4,41 +4,18 @@
 
 ghost use Rattle.desk_laws.specs.AnsweredTables.{CheckFormIsAnsweredInForm, FormIsAnsweredOfAll, FormIsAnsweredOfPlan, SynthesizeFewestIsAnswered, CheckKeepsIsAnswered, SplitIsAnsweredBcnf, SplitIsAnsweredFourth, SplitIsAnsweredWide, ExhibitIsAnswered, DdlIsAnsweredInForm, DdlIsAnsweredPlan, MigrateIsAnsweredInForm, MigrateIsAnsweredPlan, SmallUniversesAreSplitBcnf, SmallUniversesAreSplitFourth, SampleIsAnswered, DiscoverIsAnswered, DiscoverIsAnsweredSmall, DiscoverIsAnsweredKeys, DiscoverNearIsAnswered, DiscoverAllIsAnswered, ImportCsvIsAnswered, ImportSqlIsAnsweredSqlite, ImportSqlIsAnsweredPostgres, RejoinIsAnswered};
 
-/// `check form` is answered where the schema file means a schema, the plan file a plan, and no scheme of
-/// the plan has more attributes than are tested.
-pub fn check_form_is_answered()
-    ensures in_form { CheckFormIsAnsweredInForm }
-{}
-
-/// `form` is answered where the schema file means a schema that does not have more attributes than are
-/// tested, or the plan file a plan of which no scheme has.
-pub fn form_is_answered()
-    ensures all { FormIsAnsweredOfAll }
-    ensures plan { FormIsAnsweredOfPlan }
-{}
-
-/// `synthesize fewest` is answered where the schema file means a schema.
-pub fn synthesize_fewest_is_answered()
-    ensures law { SynthesizeFewestIsAnswered }
-{}
-
-/// `check keeps` is answered where the schema file means a schema and the plan file a plan.
-pub fn check_keeps_is_answered()
-    ensures law { CheckKeepsIsAnswered }
-{}
-
-/// `split` is answered where the schema file means a schema, and the splitting meets no limit; at any width
-/// it meets none.
-pub fn split_is_answered()
-    ensures bcnf { SplitIsAnsweredBcnf }
-    ensures fourth { SplitIsAnsweredFourth }
-    ensures wide { SplitIsAnsweredWide }
-{}
-
-/// `exhibit` is answered where the schema file means a schema without a multivalued dependency that is not
-/// too wide, and whose relation has not too many rows.
-pub fn exhibit_is_answered()
-    ensures law { ExhibitIsAnswered }
+/// `check form`, `form`, `synthesize fewest`, `check keeps`, `split` and `exhibit` are answered where the files mean a schema
+/// and a plan, and no limit is met.
+pub fn forms_are_answered()
+    ensures check_form { CheckFormIsAnsweredInForm }
+    ensures form { FormIsAnsweredOfAll }
+    ensures form_of_plan { FormIsAnsweredOfPlan }
+    ensures fewest { SynthesizeFewestIsAnswered }
+    ensures check_keeps { CheckKeepsIsAnswered }
+    ensures split_bcnf { SplitIsAnsweredBcnf }
+    ensures split_fourth { SplitIsAnsweredFourth }
+    ensures split_wide { SplitIsAnsweredWide }
+    ensures exhibit { ExhibitIsAnswered }
 {}
 
 /// `ddl` is answered where the schema file means a schema of which no value may be missing, and a plan in the
@@ -66,34 +43,20 @@ pub fn sample_is_answered()
     ensures law { SampleIsAnswered }
 {}
 
-/// `discover` is answered where the CSV file has a header that names its columns, and rows under it, and no
-/// evidence of the rows has too many candidates for any column; so with a bound on the left sides, and for keys.
-pub fn discover_is_answered()
-    ensures law { DiscoverIsAnswered }
-    ensures small { DiscoverIsAnsweredSmall }
+/// `discover`, with a bound or without, for keys, near and all, is answered where the CSV file has a header that names
+/// its columns, and rows under it, and no limit of the search is met.
+pub fn discoveries_are_answered()
+    ensures rules { DiscoverIsAnswered }
+    ensures small_rules { DiscoverIsAnsweredSmall }
     ensures keys { DiscoverIsAnsweredKeys }
+    ensures near { DiscoverNearIsAnswered }
+    ensures all { DiscoverAllIsAnswered }
 {}
 
-/// `discover near` is answered where the CSV file has a header that names its columns, and rows under it, and for
-/// no column too many sets must be tried.
-pub fn discover_near_is_answered()
-    ensures law { DiscoverNearIsAnswered }
-{}
-
-/// `discover all` is answered where the CSV file has a header that names at most ten columns, and at most 100,000 rows
-/// under it.
-pub fn discover_all_is_answered()
-    ensures law { DiscoverAllIsAnswered }
-{}
-
-/// `import csv` is answered where the CSV file has a header that names its columns, and rows under it.
-pub fn import_csv_is_answered()
-    ensures law { ImportCsvIsAnswered }
-{}
-
-/// `import sqlite` and `import postgres` are answered where a word wants a table, and the SQL of the file
-/// defines it.
-pub fn import_sql_is_answered()
+/// `import csv` is answered where the CSV file has a header that names its columns, and rows under it; `import sqlite` and
+/// `import postgres` where a word wants a table, and the SQL of the file defines it.
+pub fn imports_are_answered()
+    ensures csv { ImportCsvIsAnswered }
     ensures sqlite { ImportSqlIsAnsweredSqlite }
     ensures postgres { ImportSqlIsAnsweredPostgres }
 {}

@@ -96,9 +96,10 @@ ScriptsMeasure schema name = WithTableName name (MeasuresTable schema name)
 -- ---- migrating
 -- what a script that makes tables does. In an engine that holds a relation as this table, whatever it refuses,
 -- a run without an error has moved the relation into the tables, its table has no other columns, and all else is as
--- it was; any other run has changed nothing. Over a legal relation what fills each table is its ordered projection,
--- and where the plan loses nothing the join of the tables is the relation; and then a run ends without an error where
--- the engine refuses only what breaks a rule
+-- it was; any other run has changed nothing. Over a legal relation what fills each table are its rows, of the tuples
+-- that miss no value of its key, and where the plan loses nothing the join of all tables is the relation; and where the
+-- design can be read back, a run over tuples that are tidy ends without an error in an engine that refuses only what
+-- breaks a rule
 pub record IsSoundScript (schema : Schema) (table : List ℕ) (tables : List TableDesign) : Type 0 where
   pub fills : FillsTables schema tables
   pub view : ViewIsTable schema tables

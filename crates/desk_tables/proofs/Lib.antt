@@ -1,3 +1,7 @@
 pub mod MigrationLemmas
 pub mod OverwritingLemmas
 pub mod OwnFolderLemmas
+pub mod TidyLemmas
+pub mod DesigningLemmas
+pub mod OneDesignLemmas
+pub mod RejoiningLemmas

@@ -6,6 +6,8 @@
 //! Promises: the response is allowed.
 #![tactic(auto)]
 
+mod designing;
+mod keyed;
 mod migration;
 mod overwriting;
 mod own_folders;
@@ -13,6 +15,7 @@ mod placing;
 mod rejoining;
 mod rows;
 mod sampling;
+mod tidiness;
 
 pub use own_folders::{migrate_form_into, migrate_plan_into};
 pub use placing::{migrate_form_here, migrate_plan_here};

@@ -1,27 +1,33 @@
-ghost use Rattle.std.specs.Prelude.{◌≡◌, ◌≤◌, ◌<◌, ◌^◌, ◌++◌, length, map, codes, IfOk, OnOk};
+ghost use Rattle.std.specs.Prelude.{◌≡◌, ◌≤◌, ◌<◌, ◌^◌, ◌++◌, List, length, map, codes, All, IfOk, OnOk};
 ghost use Rattle.std.specs.Fmt.{decimal};
 ghost use Rattle.std.specs.List.{flat_map};
 ghost use Rattle.named_tables.specs.Tables.{chosen_value, table_values};
 ghost use Rattle.plans.specs.Plans.{IsPlanOver, plan_of};
 ghost use Rattle.dep_model.specs.Projections.{Covers, IsLossless};
-ghost use Rattle.schema_model.specs.Schemas.{LegalFor, theory_of, width_of, theory_in};
+ghost use Rattle.attr_sets.specs.Attributes.{Attributes, IsSubset};
+ghost use Rattle.attr_sets.specs.Sets.{attributes};
+ghost use Rattle.schema_model.specs.Schemas.{LegalFor, nullable_of, theory_in, theory_of, universe_of, width_of};
 ghost use Rattle.dep_model.specs.Tuples.{IsOver, Relation};
 ghost use Rattle.schema_printer.specs.Printing.{words_text};
 ghost use Rattle.schema_printer.specs.Spelling.{spelling};
-ghost use Rattle.desk_tables.specs.Migrations.{AreTablesOf, GivesTables, MigratesPlan, MigratesRows, migrated_text, table_line};
+ghost use Rattle.optional_tables.specs.LookUps.{IsTidyFor, empty_values, schemes_of_tables};
+ghost use Rattle.desk_tables.specs.Migrations.{GivesTables, MigratesPlan, MigratesRows, migrated_text, table_line};
+ghost use Rattle.desk_tables.specs.Tidiness.{HasPrimaryKey, IsKeyedDesign};
 ghost use Rattle.desk_responses.specs.Responses.{response_value, RespondsAs};
 ghost use Rattle.desk_texts.specs.Texts.{line};
 
+use crate::keyed::keyed_design;
 use crate::rows::test_rows;
+use crate::tidiness::test_tidy;
 use byte_texts::add;
 use csv_migrate::tables;
 use dep_model::OutOfMemory;
-use design_order::in_design_order;
 use desk_designs::test_loss;
 use desk_responses::{EarlyExit, Response};
 use desk_texts::line_of;
 use itoa::Buffer;
 use named_tables::{ChosenTable, ChosenTables};
+use optional_tables::KeyedScheme;
 use plans::{MOST_SCHEMES, Plan};
 use row_store::{Hashing, Rows};
 use schema_model::{Name, Naming, Schema};
@@ -71,54 +77,37 @@ pub fn migrate_rows(
         Ok(()) => {}
         Err(exit) => return Err(exit),
     }
-    Ok(tables_response(alloc, hashing, schema, plan, names, rows)?)
+    let design = keyed_design(alloc, schema, plan)?;
+    match test_tidy(alloc, schema, &design, &rows) {
+        Ok(()) => {}
+        Err(exit) => return Err(exit),
+    }
+    Ok(tables_response(alloc, hashing, schema, &design, names, rows)?)
 }
 
-// Legal rows as the tables of a plan.
+// Legal rows as the tables of a design.
 fn tables_response(
     alloc: Global,
     hashing: Hashing,
     schema: &Schema,
-    plan: &Plan,
+    design: &[KeyedScheme],
     names: &[Option<Name>],
     rows: Rows,
 ) -> Result<Response, OutOfMemory>
     requires over { IsOver (width_of schema.now) rows }
     requires fits_u32 { length rows < 2 ^ 32 }
-    requires universe { IsPlanOver (theory_in schema.now) plan.now }
-    requires lossless { IsLossless (width_of schema.now) (theory_of schema.now) (plan_of plan.now) }
     requires legal { LegalFor schema.now rows }
-    ensures response { IfOk result
-        (λ response. GivesTables schema.now names.now (plan_of plan.now) rows (response_value response)) }
+    requires lossless { IsLossless (width_of schema.now) (theory_of schema.now) (schemes_of_tables design.now) }
+    requires schemes_within { All (λ table. IsSubset (attributes table.scheme) (universe_of schema.now)) design.now }
+    requires keys { All (HasPrimaryKey schema.now) design.now }
+    requires within_limit { length design.now ≤ MOST_TABLES }
+    requires tidy { All (IsTidyFor (empty_values (nullable_of schema.now)) rows) design.now }
+    ensures response { (plan : List Attributes) → IsKeyedDesign schema.now plan design.now
+        → IfOk result (λ response. GivesTables schema.now names.now plan rows (response_value response)) }
 {
-    let tables = tables_of(alloc, hashing, schema, plan, names, rows)?;
+    let tables = tables(alloc, hashing, schema, design, names, rows)?;
     let text = migrated_lines(alloc, schema.naming(), &tables)?;
     Ok(Response::with_tables(text, tables))
-}
-
-// The tables of a plan, in the order of a design. No memory holds a plan of more tables than have a name.
-fn tables_of(
-    alloc: Global,
-    hashing: Hashing,
-    schema: &Schema,
-    plan: &Plan,
-    names: &[Option<Name>],
-    rows: Rows,
-) -> Result<ChosenTables, OutOfMemory>
-    requires over { IsOver (width_of schema.now) rows }
-    requires fits_u32 { length rows < 2 ^ 32 }
-    requires universe { IsPlanOver (theory_in schema.now) plan.now }
-    requires lossless { IsLossless (width_of schema.now) (theory_of schema.now) (plan_of plan.now) }
-    requires legal { LegalFor schema.now rows }
-    ensures rows { IfOk result (λ tables. tables.rows ≡ rows) }
-    ensures tables { IfOk result
-        (λ tables. AreTablesOf schema.now names.now (plan_of plan.now) rows (table_values tables)) }
-{
-    let ordered = in_design_order(alloc, &schema.theory(), plan)?;
-    if ordered.schemes().len() > MOST_TABLES as usize {
-        return Err(OutOfMemory);
-    }
-    Ok(tables(alloc, hashing, schema, &ordered, names, rows)?)
 }
 
 // How many rows were read, and the tables that they became.

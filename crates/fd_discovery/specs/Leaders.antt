@@ -16,6 +16,10 @@ pub record AreLeadersOn (r : Relation) (x : Attributes) (leaders : List ℕ) : T
   pub same : (i j : ℕ) → i < length r → j < length r → AgreeOn x (row_at r i) (row_at r j)
       → number_at leaders i ≡ number_at leaders j
 
+-- each number below a count stands in a list
+abbrev pub HasEach : ℕ → List ℕ → Type 0
+HasEach count order = (i : ℕ) → i < count → (p : ℕ) × (p < length order) × (number_at order p ≡ i)
+
 -- the positions of a list, those of lesser numbers first
 pub record IsOrderOf (numbers order : List ℕ) : Type 0 where
   pub within : (p : ℕ) → p < length order → number_at order p < length numbers

@@ -42,7 +42,8 @@ Follows refs ref =
 -- the target of the code is one of the files, with its values
 pub record IsTargetOf (files : List HeadedRows) (target : Target) : Type 0 where
   pub within : target.file < length files
-  pub is_target : IsTarget (length (file_at files target.file).names) (file_at files target.file).rows target.columns.items
+  pub is_target : IsTarget (length (file_at files target.file).names) (file_at files target.file).rows
+      target.columns.items
   pub values : AreValues (file_at files target.file).rows target.columns.items (tuples_of target.values.keys)
 
 -- it is referred to

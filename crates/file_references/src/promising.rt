@@ -84,7 +84,8 @@ fn may_be_referred_to(
     ensures may { (file x : ℕ) → file < length files.now → (file ≡ target → ⊥)
         → attribute_named (file_at (map headed_of files.now) file).names
         (name_at (file_at (map headed_of files.now) target).names column) ≡ Some x
-        → MayRefer (file_at (map headed_of files.now) file).rows x (file_at (map headed_of files.now) target).rows column
+        → MayRefer (file_at (map headed_of files.now) file).rows x
+        (file_at (map headed_of files.now) target).rows column
         → IfOk result (λ may. may ≡ true) }
 {
     let name = files[target].names[column].bytes();

@@ -163,7 +163,8 @@ fn refers(
     ensures refers { AreReferences (map headed_of files.now) (map reference_of found.now)
         → IsTargetOf (map headed_of files.now) target.now
         → IsCandidate (map headed_of files.now) (refers_from file columns.now target.now)
-        → IfOk result (λ refers. IsTrue refers ↔ IsReference (map headed_of files.now) (refers_from file columns.now target.now)) }
+        → IfOk result (λ refers. IsTrue refers
+        ↔ IsReference (map headed_of files.now) (refers_from file columns.now target.now)) }
 {
     let rows = &files[file].rows;
     if !are_first_among(alloc, rows, columns, &target.values)? {

@@ -64,21 +64,30 @@ names_back header is = by (list_all is_plain_name header) refl
         (parts.0, not_true (is_reserved format.Plain name) parts.1)
     by false some = λ i d within. subst IsName (get_or_default header i [] d within) (is.named i within).0
 
+-- so are those of a schema of its columns
+pub names_read_again : (header : List (List ℕ)) (s : Schema) → IsColumnHeader header → HasTextColumns header s
+    → All (IsReadBack format.Plain (naming_of s)) (names_of s)
+names_read_again header s is has =
+    subst (λ (naming : Naming). All (IsReadBack format.Plain naming) (names_of s)) (sym has.naming)
+    (subst (λ (names : List (List ℕ)). All (IsReadBack format.Plain (naming_under header)) names) (sym has.names) (names_back header is))
+
 -- ---- the meaning
+pub same_declarations : (header : List (List ℕ)) (s : Schema) → HasTextColumns header s → (lines : List ℕ)
+    → ◌≡◌ {A = Declarations}
+    (record { names = names_of s; columns = types_of s; deps = theory_of s; lines = lines; naming = naming_of s; nullable = nullable_of s })
+    (record { names = header; columns = replicate (length header) Text; deps = theory_of s; lines = lines; naming = naming_under header; nullable = none })
+same_declarations header s has lines =
+    (λ i. record { names = has.names i; columns = has.types i; deps = theory_of s; lines = lines; naming = has.naming i; nullable = has.nullable i })
+
 pub found_means : (header : List (List ℕ)) (s : Schema) → IsColumnHeader header → HasTextColumns header s
     → length (theory_of s) ≤ MOST_DEPENDENCY_LINES
     → (lines : List ℕ) × MeansSchema (found_text header (theory_of s))
     (record { names = header; columns = replicate (length header) Text; deps = theory_of s; lines = lines; naming = naming_under header; nullable = none })
 found_means header s is has few =
     let size : length (theory_of s) ≡ length (deps_of s) = length-map (deps_of s) dependency_of in
-    let back : All (IsReadBack format.Plain (naming_of s)) (names_of s) =
-    subst (λ (naming : Naming). All (IsReadBack format.Plain naming) (names_of s)) (sym has.naming)
-    (subst (λ (names : List (List ℕ)). All (IsReadBack format.Plain (naming_under header)) names) (sym has.names) (names_back header is)) in
-    let (lines, means) = printed-schema-law s (omega (arith, size, few)) back in
-    let whole : Declarations = record { names = names_of s; columns = types_of s; deps = theory_of s; lines = lines; naming = naming_of s; nullable = nullable_of s } in
-    let stated : Declarations = record { names = header; columns = replicate (length header) Text; deps = theory_of s; lines = lines; naming = naming_under header; nullable = none } in
-    let same : whole ≡ stated = (λ i. record { names = has.names i; columns = has.types i; deps = theory_of s; lines = lines; naming = has.naming i; nullable = has.nullable i }) in (
+    let (lines, means) = printed-schema-law s (omega (arith, size, few)) (names_read_again header s is has) in
+    let stated : Declarations = record { names = header; columns = replicate (length header) Text; deps = theory_of s; lines = lines; naming = naming_under header; nullable = none } in (
       lines,
       subst (λ (text : List ℕ). MeansSchema text stated) (few_printed header s (theory_of s) has few)
-          (subst (λ (d : Declarations). MeansSchema (schema_text s (theory_of s)) d) same means),
+          (subst (λ (d : Declarations). MeansSchema (schema_text s (theory_of s)) d) (same_declarations header s has lines) means),
     )

@@ -13,6 +13,7 @@ mod CanonicalLaws
 mod ConfirmedLaws
 mod ExhibitLaws
 mod FoundLaws
+mod NearTexts
 mod WrittenSchemas
 pub mod WrittenCovers
 mod ProjectLaws

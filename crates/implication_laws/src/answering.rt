@@ -31,116 +31,58 @@ ghost use Rattle.desk_responses.specs.ResponseValues.{ResponseValue};
 ghost use Rattle.desk_responses.specs.declared.status.Status.TheVariants.{Yes};
 ghost use Rattle.implication_laws.specs.OneAnswer.{AllowsOne, HasFixedProof};
 
-/// `implies` has one answer to a goal, but for the derivation of one that is no functional chain and not
-/// given.
-pub fn implies_has_one_answer()
-    ensures law { (schema : Schema) (goal : List ℕ) (d : Dependency) (one other : ResponseValue)
+/// A question to a schema has one answer: whether a goal follows (but for the derivation of one that is no
+/// functional chain and not given), what a set determines and which keys there are, what a certificate or a
+/// derivation shows, a part of the schema, and rows that exhibit it.
+pub fn questions_have_one_answer()
+    ensures implies { (schema : Schema) (goal : List ℕ) (d : Dependency) (one other : ResponseValue)
         → IsGoal schema goal d → (one.status ≡ Yes → HasFixedProof schema d)
         → DecidesGoal schema goal one → DecidesGoal schema goal other → one ≡ other }
-{}
-
-/// `check proof` has one answer to a certificate and a goal.
-pub fn check_proof_has_one_answer()
-    ensures law { (schema : Schema) (tree : Tree) (goal : List ℕ) → AllowsOne (ChecksProof schema tree goal) }
-{}
-
-/// `check derivation` has one answer to the lines of a derivation and a goal.
-pub fn check_derivation_has_one_answer()
-    ensures law { (schema : Schema) (lines : List DerivationLine) (goal : List ℕ)
+    ensures certificate { (schema : Schema) (tree : Tree) (goal : List ℕ) → AllowsOne (ChecksProof schema tree goal) }
+    ensures derivation { (schema : Schema) (lines : List DerivationLine) (goal : List ℕ)
         → AllowsOne (ChecksDerivation schema lines goal) }
+    ensures closure { (schema : Schema) (set : List ℕ) → AllowsOne (GivesClosure schema set) }
+    ensures basis { (schema : Schema) (set : List ℕ) → AllowsOne (GivesBasis schema set) }
+    ensures projection { (schema : Schema) (set : List ℕ) → AllowsOne (Projects schema set) }
+    ensures key { (schema : Schema) (set : List ℕ) → AllowsOne (ChecksKey schema set) }
+    ensures keys { (schema : Schema) → AllowsOne (ListsKeys schema) }
+    ensures keys_of_plan { (schema : Schema) (plan : List Attributes) → AllowsOne (ListsKeysOfPlan schema plan) }
+    ensures exhibit { (schema : Schema) → AllowsOne (Exhibits schema) }
 {}
 
-/// `cover` has one answer, and so has `cover canonical`.
-pub fn cover_has_one_answer()
-    ensures law { (schema : Schema) → AllowsOne (GivesCover schema) }
+/// A cover, a canonical cover, the reasons of a cover and of keys, and what is said of a schema as a cover of
+/// another or as the same, are one answer each.
+pub fn covers_have_one_answer()
+    ensures cover { (schema : Schema) → AllowsOne (GivesCover schema) }
     ensures canonical { (schema : Schema) → AllowsOne (GivesCanonicalCover schema) }
-{}
-
-/// `basis` has one answer to a set.
-pub fn basis_has_one_answer()
-    ensures law { (schema : Schema) (set : List ℕ) → AllowsOne (GivesBasis schema set) }
-{}
-
-/// `keys` has one answer, of a schema and of the schemes of a plan.
-pub fn keys_has_one_answer()
-    ensures universe { (schema : Schema) → AllowsOne (ListsKeys schema) }
-    ensures plan { (schema : Schema) (plan : List Attributes) → AllowsOne (ListsKeysOfPlan schema plan) }
-{}
-
-/// `closure` has one answer to a set.
-pub fn closure_has_one_answer()
-    ensures law { (schema : Schema) (set : List ℕ) → AllowsOne (GivesClosure schema set) }
-{}
-
-/// `project` has one answer to a set.
-pub fn project_has_one_answer()
-    ensures law { (schema : Schema) (set : List ℕ) → AllowsOne (Projects schema set) }
-{}
-
-/// `check key` has one answer to a set.
-pub fn check_key_has_one_answer()
-    ensures law { (schema : Schema) (set : List ℕ) → AllowsOne (ChecksKey schema set) }
-{}
-
-/// `check cover` has one answer, and so has `check cover canonical`.
-pub fn check_cover_has_one_answer()
-    ensures law { (schema other : Schema) (file other_file : List ℕ)
+    ensures explained_cover { (schema : Schema) → AllowsOne (ExplainsCover schema) }
+    ensures explained_keys { (schema : Schema) → AllowsOne (ExplainsKeys schema) }
+    ensures check { (schema other : Schema) (file other_file : List ℕ)
         → AllowsOne (ChecksCover schema other file other_file) }
-    ensures canonical { (schema other : Schema) (file other_file : List ℕ)
+    ensures check_canonical { (schema other : Schema) (file other_file : List ℕ)
         → AllowsOne (ChecksCanonicalCover schema other file other_file) }
-{}
-
-/// `explain cover` and `explain keys` have one answer.
-pub fn explanations_have_one_answer()
-    ensures cover { (schema : Schema) → AllowsOne (ExplainsCover schema) }
-    ensures keys { (schema : Schema) → AllowsOne (ExplainsKeys schema) }
-{}
-
-/// `exhibit` has one answer.
-pub fn exhibit_has_one_answer()
-    ensures law { (schema : Schema) → AllowsOne (Exhibits schema) }
-{}
-
-/// `check same` has one answer.
-pub fn check_same_has_one_answer()
-    ensures law { (schema other : Schema) (file other_file : List ℕ)
+    ensures same { (schema other : Schema) (file other_file : List ℕ)
         → AllowsOne (ChecksSame schema other file other_file) }
 {}
 
-/// Any two answers of `discover` are equal, or one of them is the refusal of a column that has too many left
-/// sides. Rows of few columns are never refused so: there it has one answer.
-pub fn discover_has_one_answer()
-    ensures law { (file : List ℕ) (headed : HeadedRows) (one other : ResponseValue)
+/// What is discovered in rows is one answer, but that where a column has too many left sides, or there are too
+/// many keys, it may be refused so; of few columns it is never refused.
+pub fn discoveries_have_one_answer()
+    ensures rules { (file : List ℕ) (headed : HeadedRows) (one other : ResponseValue)
         → FindsRules file headed one → FindsRules file headed other
         → (one ≡ other) ⊎ (RefusesRules (length headed.names) file headed one
         ⊎ RefusesRules (length headed.names) file headed other) }
-    ensures few { (file : List ℕ) (headed : HeadedRows) → length headed.names ≤ WIDEST_TRIED
+    ensures few_rules { (file : List ℕ) (headed : HeadedRows) → length headed.names ≤ WIDEST_TRIED
         → AllowsOne (FindsRules file headed) }
-{}
-
-/// The same with a bound on the left sides.
-pub fn discover_small_has_one_answer()
-    ensures law { (most : ℕ) (file : List ℕ) (headed : HeadedRows) (one other : ResponseValue)
+    ensures small_rules { (most : ℕ) (file : List ℕ) (headed : HeadedRows) (one other : ResponseValue)
         → FindsSmallRules most file headed one → FindsSmallRules most file headed other
         → (one ≡ other) ⊎ (RefusesRules most file headed one ⊎ RefusesRules most file headed other) }
-    ensures few { (most : ℕ) (file : List ℕ) (headed : HeadedRows) → length headed.names ≤ WIDEST_TRIED
+    ensures few_small_rules { (most : ℕ) (file : List ℕ) (headed : HeadedRows) → length headed.names ≤ WIDEST_TRIED
         → AllowsOne (FindsSmallRules most file headed) }
-{}
-
-/// Any two answers of `discover keys` are equal, or one of them is the refusal of too many keys.
-pub fn discover_keys_has_one_answer()
-    ensures law { (file : List ℕ) (headed : HeadedRows) (one other : ResponseValue)
+    ensures row_keys { (file : List ℕ) (headed : HeadedRows) (one other : ResponseValue)
         → FindsRowKeys file headed one → FindsRowKeys file headed other
         → (one ≡ other) ⊎ (RefusesRowKeys file headed one ⊎ RefusesRowKeys file headed other) }
-{}
-
-/// `discover all` has one answer.
-pub fn discover_all_has_one_answer()
-    ensures law { (headed : HeadedRows) → AllowsOne (FindsAllRules headed) }
-{}
-
-/// `discover near` has one answer.
-pub fn discover_near_has_one_answer()
-    ensures law { (limit most : ℕ) (file : List ℕ) (headed : HeadedRows)
+    ensures all_rules { (headed : HeadedRows) → AllowsOne (FindsAllRules headed) }
+    ensures near_rules { (limit most : ℕ) (file : List ℕ) (headed : HeadedRows)
         → AllowsOne (FindsNearRules limit most file headed) }
 {}

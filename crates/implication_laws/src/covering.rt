@@ -18,41 +18,29 @@ ghost use Rattle.desk_responses.specs.ResponseValues.{ResponseValue, Says};
 ghost use Rattle.desk_responses.specs.declared.status.Status.TheVariants.{Yes};
 ghost use Rattle.implication_laws.specs.Minimality.{IsCanonicalByKind, IsMinimalByKind};
 
-/// `check cover` says nothing of a line exactly where the functional dependencies are a minimal cover of
-/// themselves and no multivalued one follows from the rest. It says yes exactly where, besides, the second
-/// schema has the names and the legal relations of the first. Where all dependencies are functional, they
-/// are a minimal cover.
-pub fn minimal_covers_are_confirmed()
-    ensures silent { (schema : Schema)
+/// `check cover` and `check cover canonical` say nothing of a line exactly where the functional dependencies are a
+/// minimal, or canonical, cover of themselves and no multivalued one follows from the rest, and yes exactly where
+/// besides the schemas have the same legal relations; and a canonical cover is a cover with one dependency a left
+/// side.
+pub fn covers_are_confirmed()
+    ensures minimal_silent { (schema : Schema)
         → AreCoverDiagnostics Minimal (width_of schema) (theory_of schema) [] ↔ IsMinimalByKind schema }
-    ensures yes { (schema other : Schema) (file other_file : List ℕ) (response : ResponseValue)
+    ensures minimal_yes { (schema other : Schema) (file other_file : List ℕ) (response : ResponseValue)
         → ChecksCover schema other file other_file response
         → (response.status ≡ Yes)
         ↔ (SameNames schema other × HaveSameLegalRelations schema other × IsMinimalByKind other) }
-    ensures functional { (schema : Schema) → functional_part (theory_of schema) ≡ theory_of schema
+    ensures minimal_functional { (schema : Schema) → functional_part (theory_of schema) ≡ theory_of schema
         → IsMinimalByKind schema ↔ IsMinimalCover (width_of schema) (theory_of schema) (theory_of schema) }
-{}
-
-/// `check cover canonical` says nothing of a line exactly where the functional dependencies are a canonical
-/// cover of themselves and no multivalued one follows from the rest. It says yes exactly where, besides, the
-/// second schema has the names and the legal relations of the first. Where all dependencies are functional,
-/// they are a canonical cover.
-pub fn canonical_covers_are_confirmed()
-    ensures silent { (schema : Schema)
+    ensures canonical_silent { (schema : Schema)
         → AreCoverDiagnostics Canonical (width_of schema) (theory_of schema) [] ↔ IsCanonicalByKind schema }
-    ensures yes { (schema other : Schema) (file other_file : List ℕ) (response : ResponseValue)
+    ensures canonical_yes { (schema other : Schema) (file other_file : List ℕ) (response : ResponseValue)
         → ChecksCanonicalCover schema other file other_file response
         → (response.status ≡ Yes)
         ↔ (SameNames schema other × HaveSameLegalRelations schema other × IsCanonicalByKind other) }
-    ensures functional { (schema : Schema) → functional_part (theory_of schema) ≡ theory_of schema
+    ensures canonical_functional { (schema : Schema) → functional_part (theory_of schema) ≡ theory_of schema
         → IsCanonicalByKind schema
         ↔ IsCanonicalCover (width_of schema) (theory_of schema) (theory_of schema) }
-{}
-
-/// What `cover canonical` prints is what `cover` prints, in which the functional dependencies of one left side
-/// stand as one, at the place of the first, with all their right sides.
-pub fn canonical_covers_are_merged_covers()
-    ensures law { (schema : Schema) (plain canonical : ResponseValue) → GivesCover schema plain
+    ensures merged { (schema : Schema) (plain canonical : ResponseValue) → GivesCover schema plain
         → GivesCanonicalCover schema canonical
         → (whole : List Dependency) × Says Yes (schema_text schema whole) plain
         × Says Yes (schema_text schema (merge_left_sides whole)) canonical }

@@ -16,6 +16,7 @@ ghost use Rattle.schema_grammar.specs.Schemas.{MeansSchema};
 ghost use Rattle.schema_grammar.specs.declared.format.TheConstants.{MOST_DEPENDENCY_LINES};
 ghost use Rattle.schema_printer.specs.Printing.{schema_text};
 ghost use Rattle.desk_discovery.specs.Discoveries.{HasTextColumns, HasTooManyLeftSides, found_text};
+ghost use Rattle.desk_discovery.specs.NearDiscoveries.{near_text};
 ghost use Rattle.desk_texts.specs.Texts.{overlong_text};
 
 /// What `discover` prints is the text of a schema of text columns under the header's names, with the
@@ -28,6 +29,23 @@ pub fn found_texts_mean_their_schema()
     ensures means { (header : List (List ℕ)) (s : Schema) → IsColumnHeader header → HasTextColumns header s
         → length (theory_of s) ≤ MOST_DEPENDENCY_LINES
         → (lines : List ℕ) × MeansSchema (found_text header (theory_of s))
+        (record {
+          names = header;
+          columns = replicate (length header) Text;
+          deps = theory_of s;
+          lines = lines;
+          naming = naming_under header;
+          nullable = none;
+        }) }
+{}
+
+/// What `discover near` prints, each dependency with how many rows must change, means the header's names, as text
+/// columns, and these dependencies, where a text may have so many.
+pub fn near_texts_mean_their_schema()
+    ensures means { (header : List (List ℕ)) (s : Schema) (errors : List ℕ) → IsColumnHeader header
+        → HasTextColumns header s → length errors ≡ length (theory_of s)
+        → length (theory_of s) ≤ MOST_DEPENDENCY_LINES
+        → (lines : List ℕ) × MeansSchema (near_text header (theory_of s) errors)
         (record {
           names = header;
           columns = replicate (length header) Text;

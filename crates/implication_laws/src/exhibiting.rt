@@ -16,25 +16,17 @@ ghost use Rattle.desk_responses.specs.ResponseValues.{ResponseValue, Says};
 ghost use Rattle.desk_responses.specs.declared.status.Status.TheVariants.{Yes};
 ghost use Rattle.implication_laws.specs.Alike.{AnswersAlikeWith};
 
-/// The relation that `exhibit` prints is legal for its schema, and `check rows` answers yes to it.
-pub fn exhibits_are_legal()
-    ensures law { (schema : Schema) (shown : ResponseValue) → Exhibits schema shown → shown.status ≡ Yes
+/// The relation that `exhibit` prints is legal for its schema; it obeys exactly the functional goals that are
+/// implied; and what is discovered in it says as much as the schema does.
+pub fn exhibits_show_their_schema()
+    ensures legal { (schema : Schema) (shown : ResponseValue) → Exhibits schema shown → shown.status ≡ Yes
         → (rows : Relation) × Says Yes (rows_text (names_of schema) rows) shown × LegalFor schema rows
         × ((judged : ResponseValue) → JudgesRows schema rows judged → judged.status ≡ Yes) }
-{}
-
-/// `implies` answers yes to a functional goal exactly where the relation that `exhibit` prints obeys it.
-pub fn exhibits_decide_goals()
-    ensures law { (schema : Schema) (shown : ResponseValue) → Exhibits schema shown → shown.status ≡ Yes
+    ensures goals { (schema : Schema) (shown : ResponseValue) → Exhibits schema shown → shown.status ≡ Yes
         → (rows : Relation) × Says Yes (rows_text (names_of schema) rows) shown
         × ((goal : List ℕ) (d : Dependency) (decided : ResponseValue) → IsGoal schema goal d → is_fd d ≡ true
         → DecidesGoal schema goal decided → (decided.status ≡ Yes) ↔ Obeys (width_of schema) d rows) }
-{}
-
-/// What `discover` finds in the relation that `exhibit` prints are dependencies that, in place of the
-/// schema's own, are answered alike; or it is refused, since a column has too many left sides.
-pub fn rules_of_exhibits_are_answered_alike()
-    ensures law { (schema : Schema) (shown : ResponseValue) → Exhibits schema shown → shown.status ≡ Yes
+    ensures rules { (schema : Schema) (shown : ResponseValue) → Exhibits schema shown → shown.status ≡ Yes
         → (rows : Relation) × Says Yes (rows_text (names_of schema) rows) shown
         × ((file : List ℕ) (headed : HeadedRows) (found : ResponseValue) → headed.names ≡ names_of schema
         → headed.rows ≡ rows → FindsRules file headed found

@@ -13,29 +13,20 @@ ghost use Rattle.desk_responses.specs.ResponseValues.{ResponseValue};
 ghost use Rattle.desk_responses.specs.declared.status.Status.TheVariants.{Yes, No};
 ghost use Rattle.implication_laws.specs.Rewriting.{HaveSameDependencies};
 
-/// Two schemas with the same names and the same dependencies, in any order, answer a goal by the same
-/// status; so one never answers yes and the other no.
-pub fn yes_and_no_exclude_each_other()
+/// Two schemas with the same names and the same dependencies, in any order, answer a goal by one status, and never
+/// one yes and the other no; what `check proof` accepts `implies` says; and legal rows obey what is implied.
+pub fn answers_on_goals_agree()
     ensures status { (schema other : Schema) (goal : List ℕ) (first second : ResponseValue)
         → HaveSameDependencies schema other → DecidesGoal schema goal first → DecidesGoal other goal second
         → first.status ≡ second.status }
     ensures excluded { (schema other : Schema) (goal : List ℕ) (first second : ResponseValue)
         → HaveSameDependencies schema other → DecidesGoal schema goal first → DecidesGoal other goal second
         → first.status ≡ Yes → second.status ≡ No → ⊥ }
-{}
-
-/// Where `check proof` accepts a certificate of a goal, `implies` answers yes to the goal, whatever the
-/// order of the dependencies.
-pub fn accepted_goals_are_implied()
-    ensures law { (schema other : Schema) (tree : Tree) (goal : List ℕ) (accepted decided : ResponseValue)
+    ensures accepted { (schema other : Schema) (tree : Tree) (goal : List ℕ) (accepted decided : ResponseValue)
         → HaveSameDependencies schema other → ChecksProof schema tree goal accepted
         → accepted.status ≡ Yes
         → DecidesGoal other goal decided → decided.status ≡ Yes }
-{}
-
-/// Rows that `check rows` calls legal obey each goal to which `implies` answers yes.
-pub fn legal_rows_obey_implied_goals()
-    ensures law { (schema : Schema) (goal : Dependency) (rows : Relation) (decided judged : ResponseValue)
+    ensures obeyed { (schema : Schema) (goal : Dependency) (rows : Relation) (decided judged : ResponseValue)
         → Decided schema goal decided → decided.status ≡ Yes → JudgesRows schema rows judged
         → judged.status ≡ Yes → Obeys (width_of schema) goal rows }
 {}

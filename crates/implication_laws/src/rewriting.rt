@@ -16,21 +16,15 @@ ghost use Rattle.desk_responses.specs.declared.status.Status.TheVariants.{Yes};
 ghost use Rattle.implication_laws.specs.Alike.{AnswerAlike, AnswersAlikeWith};
 ghost use Rattle.implication_laws.specs.Rewriting.{HaveSameDependencies, MeansConfirmed};
 
-/// Two schemas with the same names, written alike, for which the same relations are legal are answered alike.
-pub fn same_legal_relations_are_answered_alike()
-    ensures law { (schema other : Schema) → naming_of schema ≡ naming_of other
+/// Two schemas with the same names are answered alike where the same relations are legal for them; so where they
+/// have the same dependencies in any order; and so are the dependencies that `cover` prints in place of the
+/// schema's own.
+pub fn schemas_are_answered_alike()
+    ensures same_relations { (schema other : Schema) → naming_of schema ≡ naming_of other
         → names_of schema ≡ names_of other
         → HaveSameLegal (width_of schema) (theory_of other) (theory_of schema) → AnswerAlike schema other }
-{}
-
-/// Two schemas with the same names and the same dependencies, in any order, are answered alike.
-pub fn line_order_is_free()
-    ensures law { (schema other : Schema) → HaveSameDependencies schema other → AnswerAlike schema other }
-{}
-
-/// What `cover` prints is the text of dependencies that, in place of the schema's own, are answered alike.
-pub fn covers_are_answered_alike()
-    ensures law { (schema : Schema) (printed : ResponseValue) → GivesCover schema printed
+    ensures line_order { (schema other : Schema) → HaveSameDependencies schema other → AnswerAlike schema other }
+    ensures cover { (schema : Schema) (printed : ResponseValue) → GivesCover schema printed
         → (whole : List Dependency) × Says Yes (schema_text schema whole) printed
         × AnswersAlikeWith schema whole }
 {}

@@ -19,59 +19,29 @@ ghost use Rattle.canonical_cover.specs.Canonical.{IsFixedCanonicalCover};
 ghost use Rattle.min_cover.specs.Covers.{IsFixedCover, IsFixedWholeCover};
 ghost use Rattle.schema_match.specs.Differences.{AreDifferences};
 
-/// A scheme has one greedy key.
-pub fn one_greedy_key()
-    ensures law { (n : ℕ) (ds : List Dependency) (scheme one other : Attributes) → IsSubset scheme (below n)
+/// There is one of each of these: the greedy key and the list of all keys of a scheme; the fixed cover, the fixed
+/// whole cover and the fixed canonical cover of dependencies; the basis of a set; the set whose two tuples refute
+/// a dependency; the differences of two schemas; and the minimal functional dependencies of rows.
+pub fn notions_are_unique()
+    ensures greedy_key { (n : ℕ) (ds : List Dependency) (scheme one other : Attributes) → IsSubset scheme (below n)
         → IsGreedyKey n ds scheme one → IsGreedyKey n ds scheme other → one ≡ other }
-{}
-
-/// A list of dependencies has one fixed cover.
-pub fn one_fixed_cover()
-    ensures law { (n : ℕ) (ds one other : List Dependency)
-        → IsFixedCover n ds one → IsFixedCover n ds other → one ≡ other }
-{}
-
-/// A list of dependencies has one fixed whole cover.
-pub fn one_fixed_whole_cover()
-    ensures law { (n : ℕ) (ds one other : List Dependency)
-        → IsFixedWholeCover n ds one → IsFixedWholeCover n ds other → one ≡ other }
-{}
-
-/// A list of dependencies has one fixed canonical cover.
-pub fn one_fixed_canonical_cover()
-    ensures law { (n : ℕ) (ds one other : List Dependency)
-        → IsFixedCanonicalCover n ds one → IsFixedCanonicalCover n ds other → one ≡ other }
-{}
-
-/// A scheme has one list of all its keys, as sets of attributes.
-pub fn one_list_of_keys()
-    ensures law { (n : ℕ) (ds : List Dependency) (scheme : Attributes) (one other : List AttrSet)
+    ensures keys { (n : ℕ) (ds : List Dependency) (scheme : Attributes) (one other : List AttrSet)
         → AreAllKeys n ds scheme one → AreAllKeys n ds scheme other → schemes_of one ≡ schemes_of other }
-{}
-
-/// A set of attributes has one closed set, and one list of blocks, as sets of attributes.
-pub fn one_basis()
+    ensures cover { (n : ℕ) (ds one other : List Dependency)
+        → IsFixedCover n ds one → IsFixedCover n ds other → one ≡ other }
+    ensures whole_cover { (n : ℕ) (ds one other : List Dependency)
+        → IsFixedWholeCover n ds one → IsFixedWholeCover n ds other → one ≡ other }
+    ensures canonical_cover { (n : ℕ) (ds one other : List Dependency)
+        → IsFixedCanonicalCover n ds one → IsFixedCanonicalCover n ds other → one ≡ other }
     ensures closed { (n : ℕ) (ds : List Dependency) (x : Attributes) (one other : Blocks)
         → IsBasis n ds x one → IsBasis n ds x other → attributes one.closed ≡ attributes other.closed }
     ensures blocks { (n : ℕ) (ds : List Dependency) (x : Attributes) (one other : Blocks)
         → IsBasis n ds x one → IsBasis n ds x other
         → schemes_of (blocks_of one) ≡ schemes_of (blocks_of other) }
-{}
-
-/// A dependency that is not implied is refuted by the two tuples of one set of attributes.
-pub fn one_refutation()
-    ensures law { (n : ℕ) (ds : List Dependency) (goal : Dependency) (one other : Attributes)
+    ensures refutation { (n : ℕ) (ds : List Dependency) (goal : Dependency) (one other : Attributes)
         → IsBrokenBy n ds goal one → IsBrokenBy n ds goal other → one ≡ other }
-{}
-
-/// Two schemas have one list of the dependencies of the first that do not follow from the second.
-pub fn one_list_of_differences()
-    ensures law { (schema other : Schema) (first second : List ℕ)
+    ensures differences { (schema other : Schema) (first second : List ℕ)
         → AreDifferences schema other first → AreDifferences schema other second → first ≡ second }
-{}
-
-/// Rows have one list of all their minimal functional dependencies.
-pub fn one_list_of_rules()
-    ensures law { (n : ℕ) (rows : Relation) (one other : List Dependency)
+    ensures rules { (n : ℕ) (rows : Relation) (one other : List Dependency)
         → AreAllMinimal n rows one → AreAllMinimal n rows other → one ≡ other }
 {}

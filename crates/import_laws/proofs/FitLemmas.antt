@@ -1,13 +1,12 @@
--- Each table of a design can be read: its scheme has attributes, its keys lie within it and differ, and its
--- references name tables.
-use Rattle.std.proofs.Common.{◌≡◌, ◌<◌, ◌≤◌, ℕ, inl, inr, ⊎_elim, Bool, true, false, cond, not, All, AllPairs, List, [], ◌∷◌, map, length, get_or, take, refl, sym, ap, subst, ◌∙◌, arith, Option, Some, None, length-take, Vec, Global}
-use Rattle.std.specs.Prelude.{Contains, IsSomeAnd, filter, slice_get}
+-- Each table of a design can be read: its scheme has attributes, and its keys lie within it and differ.
+use Rattle.std.proofs.Common.{◌≡◌, ◌<◌, ◌≤◌, ℕ, inl, inr, Bool, true, false, cond, not, All, AllPairs, List, [], ◌∷◌, map, length, get_or, take, refl, sym, ap, subst, ◌∙◌, arith, Option, Some, None, Vec, Global}
+use Rattle.std.specs.Prelude.{filter, slice_get}
 use Rattle.std.proofs.lemmas.Bool.{cases_Bool, cases_eq, true≢false}
 use Rattle.std.proofs.lemmas.Bool.Decides.{nat_tests}
 use Rattle.std.proofs.lemmas.List.{length-map}
-use Rattle.std.proofs.lemmas.List.Elements.{All-contains_itself, All-filter, All-map, All-nil, All-weaker, filter_passes}
+use Rattle.std.proofs.lemmas.List.Elements.{All-filter, All-map, All-nil, filter_passes}
 use Rattle.std.proofs.lemmas.List.Kept.{AllPairs-filter}
-use Rattle.std.proofs.lemmas.Option.{get_or_from_slice_get, slice_get_cases, slice_get_within}
+use Rattle.std.proofs.lemmas.Option.{get_or_from_slice_get, slice_get_within}
 use Rattle.attr_sets.proofs.AttributesLemmas.{count_below-pos, is_subset-from}
 use Rattle.attr_sets.specs.Attributes.{Attributes, IsBefore, IsEmpty, IsSubset, below, count_below, none}
 use Rattle.attr_sets.specs.Sets.{attributes, is_same}
@@ -26,7 +25,7 @@ use Rattle.schema_printer.specs.Printing.{members_from}
 use Rattle.schema_printer.proofs.MemberLemmas.{members_named}
 use Rattle.table_names.specs.TableNames.{GivenNames}
 use Rattle.ddl_text.specs.Ddl.{is_empty, is_never_missing}
-use Rattle.ddl_text.specs.Designs.{AreOtherKeys, AreReferences, IsTableOf, RefersTo, known_keys, without_key}
+use Rattle.ddl_text.specs.Designs.{AreOtherKeys, IsTableOf, known_keys, without_key}
 use Rattle.ddl_text.specs.declared.table.TableDesign.{TableDesign}
 use Rattle.sql_lexemes.specs.declared.dialect.Dialect.{Dialect}
 use Rattle.import_laws.specs.PrintedDesigns.{IsPrintedDesign}
@@ -63,14 +62,13 @@ pub record IsOther (table : TableDesign) (x : Attributes) : Type 0 where
   pub some : IsEmpty x → ⊥
   pub apart : is_same x (attributes table.key) ≡ false
 
-pub record IsFit (s : Schema) (tables : List TableDesign) (table : TableDesign) : Type 0 where
+pub record IsFit (s : Schema) (table : TableDesign) : Type 0 where
   pub within : IsSubset (attributes table.scheme) (below (width_of s))
   pub some : IsEmpty (attributes table.scheme) → ⊥
   pub key : IsSubset (attributes table.key) (attributes table.scheme)
   pub others : All (IsOther table) (known_keys table.other_keys)
   pub differ : AllPairs (λ x y. x ≡ y → ⊥) (known_keys table.other_keys)
   pub few : length (known_keys table.other_keys) ≤ MOST_KEYS
-  pub refs : All (λ j. j < length tables) table.refs.items
 
 -- ---- the other keys
 fewer : {X : Type 0} (test : X → Bool) (xs : List X) → length (filter test xs) ≤ length xs
@@ -157,29 +155,10 @@ module _ (s : Schema) (table : TableDesign) (within : IsSubset (attributes table
       let (all, are, limit, same) = listed.all in
       subst (λ (ks : List AttrSet). AreFit (schemes_of ks)) (sym same) (listed_fit listed.not_empty all are limit)
 
--- ---- references
-some_within : (P : TableDesign → Type 0) (tables : List TableDesign) (j : ℕ) → IsSomeAnd (slice_get tables j) P
-    → j < length tables
-some_within P tables j some = ⊎_elim (λ found. found.1)
-    (λ past. absurd (subst (λ (o : Option TableDesign). IsSomeAnd o P) past.1 some))
-    (slice_get_cases tables j).1
-
-shorter : {X : Type 0} (k : ℕ) (xs : List X) → length (take k xs) ≤ length xs
-shorter k xs = let size = length-take k xs in omega (arith, size)
-
-refs_within : (k : ℕ) (tables : List TableDesign) (scheme : Attributes) (refs : List ℕ)
-    → AreReferences (take k tables) scheme refs
-    → All (λ j. j < length tables) refs
-refs_within k tables scheme refs are =
-    All-weaker (Contains refs) (λ j. j < length tables)
-    (λ j has. let low = some_within (RefersTo scheme) (take k tables) j ((are.exactly j).0 has) in
-    let less = shorter k tables in omega (arith, low, less))
-    refs (All-contains_itself refs)
-
 -- ---- each table of a design
 pub table_fits : (d : Dialect) (s : Schema) (names : GivenNames) (schemes : List AttrSet) (tables : List TableDesign)
     (k : ℕ) (table : TableDesign)
-    → IsPrintedDesign d s names schemes tables → slice_get tables k ≡ Some table → IsFit s tables table
+    → IsPrintedDesign d s names schemes tables → slice_get tables k ≡ Some table → IsFit s table
 table_fits d s names schemes tables k table is here =
     let low = slice_get_within tables k table here in
     let bound : k < length schemes = let same = is.design.one_each in omega (arith, low, same) in
@@ -204,7 +183,6 @@ table_fits d s names schemes tables k table is here =
       others = others.others;
       differ = others.differ;
       few = others.few;
-      refs = refs_within k tables (attributes (get_or schemes k table.scheme)) table.refs.items made.refs;
     }
 
 not_empty : (x : Attributes) → is_empty x ≡ false → IsEmpty x → ⊥
@@ -212,9 +190,9 @@ not_empty x some empty = true≢false
     (sym (is_subset-from x none (λ k member. absurd (true≢false (sym member ∙ empty k)))) ∙ some)
 
 -- so it can be read
-pub fit_readable : (s : Schema) (tables : List TableDesign) (table : TableDesign) → IsFit s tables table
-    → IsReadable s tables table
-fit_readable s tables table fit =
+pub fit_readable : (s : Schema) (table : TableDesign) → IsFit s table
+    → IsReadable s table
+fit_readable s table fit =
     let few = fit.few in
     let stated = fewer (is_never_missing s) (known_keys table.other_keys) in record {
       key = λ some. has_column s (attributes table.key) (λ k member. fit.within k (fit.key k member))
@@ -223,14 +201,13 @@ fit_readable s tables table fit =
           (λ i d low. has_column s (get_or (known_keys table.other_keys) i d)
           (λ k member. fit.within k ((fit.others i d low).within k member)) (fit.others i d low).some);
       limit = omega (arith, few, stated);
-      refs = fit.refs;
     }
 
-pub some_columns : (d : Dialect) (s : Schema) (tables : List TableDesign) (table : TableDesign) → IsFit s tables table
-    → 0 < length (read_columns d s (attributes table.scheme))
-some_columns d s tables table fit =
+pub some_columns : (d : Dialect) (s : Schema) (table : TableDesign) → IsFit s table
+    → 0 < length (read_columns d s table)
+some_columns d s table fit =
     let some = some_members (width_of s) (attributes table.scheme) fit.within fit.some in
-    let same : length (read_columns d s (attributes table.scheme))
+    let same : length (read_columns d s table)
     ≡ length (members_below (width_of s) (attributes table.scheme)) =
-    length-map (members_below (width_of s) (attributes table.scheme)) (read_column d s) in
+    length-map (members_below (width_of s) (attributes table.scheme)) (read_column d s table) in
     omega (arith, some, same)

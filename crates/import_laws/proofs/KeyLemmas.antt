@@ -18,7 +18,8 @@ use Rattle.sql_lexemes.specs.declared.dialect.Dialect.{Dialect}
 use Rattle.sql_definitions.specs.Facts.{Facts, StatedColumn, StatedKey, StatedPart}
 use Rattle.sql_schemas.specs.Keys.{KeyColumns, and_then, column_named, columns_of_parts, is_dependency, is_new, key_dependency, keys_after, new_keys, says_so, with_part}
 use Rattle.import_laws.specs.ImportedTables.{determines_others, places_in}
-use Rattle.import_laws.specs.ReadTables.{read_columns}
+use Rattle.ddl_text.specs.declared.table.TableDesign.{TableDesign}
+use Rattle.import_laws.specs.ReadTables.{read_column}
 use Rattle.import_laws.proofs.PlaceLemmas.{IsMember, all_places, column_found, members_are, places_any}
 
 -- the parts of a stated key, by their names; and the names of a set
@@ -48,39 +49,43 @@ places_so_far scheme (a ∷ ks) y j =
     regrouped true q r = refl
     regrouped false q r = refl
 
-parts_read : (d : Dialect) (s : Schema) (scheme : Attributes) (ks : List ℕ) → All (IsMember (width_of s) scheme) ks
+-- the columns of a set, as they are read of a table
+abbrev pub columns_on : Dialect → Schema → TableDesign → Attributes → List StatedColumn
+columns_on d s table scheme = map (read_column d s table) (members_below (width_of s) scheme)
+
+parts_read : (d : Dialect) (s : Schema) (table : TableDesign) (scheme : Attributes) (ks : List ℕ) → All (IsMember (width_of s) scheme) ks
     → (parts : List StatedPart) → map (λ part. part.name) parts
     ≡ map (λ a. Some (slice_index_or (names_of s) a [])) ks
-    → (y : Attributes) → columns_of_parts (read_columns d s scheme) y parts ≡ Ok (with_places scheme y ks)
+    → (y : Attributes) → columns_of_parts (columns_on d s table scheme) y parts ≡ Ok (with_places scheme y ks)
 unfolding columns_of_parts
-parts_read d s scheme [] are [] same y = refl
-parts_read d s scheme [] are (part ∷ parts) same y = cc
-parts_read d s scheme (a ∷ ks) are [] same y = cc
-parts_read d s scheme (a ∷ ks) are (part ∷ parts) same y =
+parts_read d s table scheme [] are [] same y = refl
+parts_read d s table scheme [] are (part ∷ parts) same y = cc
+parts_read d s table scheme (a ∷ ks) are [] same y = cc
+parts_read d s table scheme (a ∷ ks) are (part ∷ parts) same y =
     let name : part.name ≡ Some (slice_index_or (names_of s) a []) = cc in
     let rest : map (λ (p : StatedPart). p.name) parts ≡ map (λ b. Some (slice_index_or (names_of s) b [])) ks = cc in
     ap (λ (o : Option (List ℕ)). and_then
-    (with_part y part.place (option_and_then (column_named (read_columns d s scheme)) o))
-    (λ z. columns_of_parts (read_columns d s scheme) z parts)) name
+    (with_part y part.place (option_and_then (column_named (columns_on d s table scheme)) o))
+    (λ z. columns_of_parts (columns_on d s table scheme) z parts)) name
     ∙ ap (λ (o : Option ℕ). and_then (with_part y part.place o)
-    (λ z. columns_of_parts (read_columns d s scheme) z parts))
-    (column_found d s scheme a (All-head (IsMember (width_of s) scheme) a ks are))
-    ∙ parts_read d s scheme ks (All-tail (IsMember (width_of s) scheme) a ks are) parts rest
+    (λ z. columns_of_parts (columns_on d s table scheme) z parts))
+    (column_found d s table scheme a (All-head (IsMember (width_of s) scheme) a ks are))
+    ∙ parts_read d s table scheme ks (All-tail (IsMember (width_of s) scheme) a ks are) parts rest
     (union y (only (count_below scheme a)))
 
 -- a stated key of the names of a set has its places
-set_read : (d : Dialect) (s : Schema) (scheme x : Attributes) → IsSubset scheme (below (width_of s))
+set_read : (d : Dialect) (s : Schema) (table : TableDesign) (scheme x : Attributes) → IsSubset scheme (below (width_of s))
     → IsSubset x scheme
     → (parts : List StatedPart) → map (λ part. part.name) parts ≡ set_names s x
-    → columns_of_parts (read_columns d s scheme) none parts ≡ Ok (places_in (members_below (width_of s) scheme) x)
-set_read d s scheme x limit within parts same =
+    → columns_of_parts (columns_on d s table scheme) none parts ≡ Ok (places_in (members_below (width_of s) scheme) x)
+set_read d s table scheme x limit within parts same =
     let members = members_below (width_of s) x in
     let named = same ∙ ap (map Some) (members_named x (names_of s))
     ∙ map-map Some (λ (a : ℕ). slice_index_or (names_of s) a []) members in
     let are : All (IsMember (width_of s) scheme) members = λ i d low.
     let is = members_are (width_of s) x i d low in
     record { low = is.low; inside = within (get_or members i d) is.inside } in
-    parts_read d s scheme members are parts named none ∙ ap Ok equal
+    parts_read d s table scheme members are parts named none ∙ ap Ok equal
   where
     one : (j : ℕ) → with_places scheme none (members_below (width_of s) x) j
         ≡ places_in (members_below (width_of s) scheme) x j
@@ -97,24 +102,24 @@ ReadsKeys f before stated sets =
     (keys : List KeyColumns) × (keys_after f.columns before stated ≡ Ok (before ++ keys)) ×
     (map (λ key. key.columns) keys ≡ sets)
 
-pub keys_read : (d : Dialect) (s : Schema) (scheme : Attributes) (f : Facts) → IsSubset scheme (below (width_of s))
-    → f.columns ≡ read_columns d s scheme
+pub keys_read : (d : Dialect) (s : Schema) (table : TableDesign) (scheme : Attributes) (f : Facts) → IsSubset scheme (below (width_of s))
+    → f.columns ≡ columns_on d s table scheme
     → (before : List KeyColumns) (stated : List StatedKey) (sets : List Attributes)
     → All (λ x. IsSubset x scheme) sets → map part_names stated ≡ map (set_names s) sets
     → ReadsKeys f before stated (map (places_in (members_below (width_of s) scheme)) sets)
 unfolding keys_after
-keys_read d s scheme f limit columns before [] [] within same = ([], ap Ok (sym (append-nil before)), refl)
-keys_read d s scheme f limit columns before [] (x ∷ sets) within same = cc
-keys_read d s scheme f limit columns before (key ∷ stated) [] within same = cc
-keys_read d s scheme f limit columns before (key ∷ stated) (x ∷ sets) within same =
+keys_read d s table scheme f limit columns before [] [] within same = ([], ap Ok (sym (append-nil before)), refl)
+keys_read d s table scheme f limit columns before [] (x ∷ sets) within same = cc
+keys_read d s table scheme f limit columns before (key ∷ stated) [] within same = cc
+keys_read d s table scheme f limit columns before (key ∷ stated) (x ∷ sets) within same =
     let named : part_names key ≡ set_names s x = cc in
     let rest : map part_names stated ≡ map (set_names s) sets = cc in
     let places = places_in (members_below (width_of s) scheme) x in
     let made : KeyColumns = record { kind = key.kind; columns = places } in
     let read : columns_of_parts f.columns none key.parts ≡ Ok places =
     ap (λ (cs : List StatedColumn). columns_of_parts cs none key.parts) columns
-    ∙ set_read d s scheme x limit (All-head (λ (y : Attributes). IsSubset y scheme) x sets within) key.parts named in
-    let (keys, later, are) = keys_read d s scheme f limit columns (before ++ made ∷ []) stated sets
+    ∙ set_read d s table scheme x limit (All-head (λ (y : Attributes). IsSubset y scheme) x sets within) key.parts named in
+    let (keys, later, are) = keys_read d s table scheme f limit columns (before ++ made ∷ []) stated sets
     (All-tail (λ (y : Attributes). IsSubset y scheme) x sets within) rest in (
       made ∷ keys,
       ap (λ r. and_then (and_then r (λ z. Ok

@@ -11,7 +11,8 @@ use Rattle.sql_definitions.specs.declared.refusal.Refusal.{Refusal}
 use Rattle.sql_definitions.specs.Facts.{StatedPart}
 use Rattle.sql_definitions.specs.Lists.{are_columns, ends_column, list_parts, lists_columns, part_length, part_of, read_list}
 use Rattle.ddl_pieces.proofs.Cutting.{depth_past}
-use Rattle.ddl_pieces.specs.Pieces.{TextPiece, lexeme_at, lexemes_from, mark, name_pieces, names_after}
+use Rattle.ddl_pieces.proofs.Designed.{name_pieces, names_after}
+use Rattle.ddl_pieces.specs.Pieces.{TextPiece, lexeme_at, lexemes_from, mark}
 use Rattle.import_laws.specs.StatedTypes.{stay_within}
 use Rattle.import_laws.proofs.NameLemmas.{name_known}
 

@@ -22,6 +22,7 @@ use Rattle.schema_model.specs.Schemas.{Schema}
 use Rattle.sql_lexemes.specs.declared.dialect.Dialect.{Dialect}
 use Rattle.sql_definitions.specs.Facts.{StatedColumn}
 use Rattle.import_laws.specs.ImportedTables.{has, places_in}
+use Rattle.ddl_text.specs.declared.table.TableDesign.{TableDesign}
 use Rattle.import_laws.specs.ReadTables.{read_column}
 use Rattle.import_laws.proofs.StatementLemmas.{same_itself}
 
@@ -211,11 +212,11 @@ module _ (n : ℕ) (scheme : Attributes) where
           let less = count_below-le n scheme in grind (arith, nat_tests, low, size, less, few)
 
 -- ---- the column of a name
-pub column_found : (d : Dialect) (s : Schema) (scheme : Attributes) (a : ℕ) → IsMember (width_of s) scheme a
+pub column_found : (d : Dialect) (s : Schema) (table : TableDesign) (scheme : Attributes) (a : ℕ) → IsMember (width_of s) scheme a
     → position (λ (c : StatedColumn). same_name c.name (slice_index_or (names_of s) a []))
-    (map (read_column d s) (members_below (width_of s) scheme))
+    (map (read_column d s table) (members_below (width_of s) scheme))
     ≡ Some (count_below scheme a)
-column_found d s scheme a is =
+column_found d s table scheme a is =
     let yes : nat_lt place (length columns) ≡ true = grind (arith, nat_tests, low) in
     ap (λ (i : ℕ). cond (nat_lt i (length columns)) (Some i) None) first
     ∙ ap (λ (b : Bool). cond b (Some place) None) yes
@@ -224,7 +225,7 @@ column_found d s scheme a is =
     members = members_below (width_of s) scheme
 
     columns : List StatedColumn
-    columns = map (read_column d s) members
+    columns = map (read_column d s table) members
 
     place : ℕ
     place = count_below scheme a
@@ -236,19 +237,19 @@ column_found d s scheme a is =
     bound = place_low (width_of s) scheme a is
 
     low : place < length columns
-    low = let size = length-map members (read_column d s) in omega (arith, bound, size)
+    low = let size = length-map members (read_column d s table) in omega (arith, bound, size)
 
     at : get_or members place a ≡ a
     at = members_below-at (width_of s) scheme a a is.low is.inside
 
     got : (k : ℕ) → k < length members
-        → test (get_or columns k (read_column d s a))
+        → test (get_or columns k (read_column d s table a))
         ≡ same_name (slice_index_or (names_of s) (get_or members k a) []) (slice_index_or (names_of s) a [])
-    got k less = ap test (get_or-map (read_column d s) members k a (read_column d s a) less)
+    got k less = ap test (get_or-map (read_column d s table) members k a (read_column d s table a) less)
 
     first : position_or_len test columns ≡ place
     first =
-        position_or_len_is test columns place (read_column d s a) (omega (arith, low))
+        position_or_len_is test columns place (read_column d s table a) (omega (arith, low))
         (λ k before. got k (omega (arith, before, bound))
         ∙ s.valid.names_differ (get_or members k a) a [] (earlier k before) is.low)
         (λ within. got place bound ∙ ap

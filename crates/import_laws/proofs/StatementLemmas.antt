@@ -1,5 +1,5 @@
 -- The statements that create the tables of a design are read: that of the table that is wanted, and no other.
-use Rattle.std.proofs.Common.{◌≡◌, ◌<◌, ◌+◌, ◌&&◌, ℕ, zero, suc, Bool, true, false, cond, All, AllPairs, List, [], ◌∷◌, ◌++◌, length, get_or, refl, ap, subst, ◌∙◌, arith, Option, Some, Ok, append_assoc}
+use Rattle.std.proofs.Common.{◌≡◌, ◌<◌, ◌+◌, ◌&&◌, ℕ, zero, suc, Bool, true, false, cond, All, AllPairs, List, [], ◌∷◌, ◌++◌, length, get_or, map, refl, ap, subst, ◌∙◌, arith, Option, Some, Ok, append_assoc}
 use Rattle.std.specs.Prelude.{codes, slice_get}
 use Rattle.std.specs.Str.{str_to_ascii_lowercase}
 use Rattle.std.proofs.lemmas.List.Elements.{All-head, All-tail}
@@ -8,6 +8,7 @@ use Rattle.std.proofs.lemmas.Slice.Eq.{bytes_eq-Decides}
 use Rattle.schema_model.specs.Names.{same_name}
 use Rattle.schema_model.specs.Schemas.{Schema}
 use Rattle.sql_syntax.specs.Names.{quoted_name}
+use Rattle.ddl_text.specs.Ddl.{elements_made}
 use Rattle.ddl_text.specs.declared.table.TableDesign.{TableDesign}
 use Rattle.sql_lexemes.specs.declared.dialect.Dialect.{Dialect}
 use Rattle.sql_lexemes.specs.declared.lexeme.LexemeKind.TheVariants as kind
@@ -18,7 +19,7 @@ use Rattle.sql_definitions.specs.Definitions.{ended, read_statement, read_statem
 use Rattle.sql_definitions.specs.Facts.{Facts, Outcome, as_found, no_facts, then_read}
 use Rattle.sql_definitions.specs.Tables.{create_table, elements, read_lexemes}
 use Rattle.ddl_pieces.specs.Created.{AreCreated, IsCreated}
-use Rattle.ddl_pieces.specs.Pieces.{TextPiece, blank, create_lexemes, elements_pieces, gap, lexeme_at, lexemes_from, lines_after, lines_pieces, mark, quoted_name_piece, word}
+use Rattle.ddl_pieces.specs.Pieces.{TextPiece, blank, create_lexemes, element_pieces, gap, lexeme_at, lexemes_from, lines_after, lines_pieces, mark, quoted_name_piece, word}
 use Rattle.import_laws.specs.ReadTables.{named}
 use Rattle.plan_printer.proofs.NameLemmas.{apart_turned}
 use Rattle.import_laws.proofs.ChainLemmas.{Leads, closing, elements_read}
@@ -144,7 +145,7 @@ others_passed d wanted s all (table ∷ tables) [] f created apart = absurd crea
 others_passed d wanted s all (table ∷ tables) (statement ∷ statements) f (here, rest) apart =
     ap (λ (o : Outcome). then_read o (read_statements d (named wanted) statements))
     (statement_is d wanted s all table statement f here
-    ∙ other_passed d wanted here.place statement.end table.name (elements_pieces s all table) f
+    ∙ other_passed d wanted here.place statement.end table.name (map element_pieces (elements_made s all table)) f
     (All-head (λ (t : TableDesign). same_name t.name wanted ≡ false) table tables apart))
     ∙ others_passed d wanted s all tables statements f rest
     (All-tail (λ (t : TableDesign). same_name t.name wanted ≡ false) table tables apart)
@@ -160,7 +161,7 @@ later_apart table tables apart i j d less low = apart (suc i) (suc j) d (omega (
 pub statements_read : (d : Dialect) (s : Schema) (all tables : List TableDesign) (statements : List Stated)
     (k : ℕ) (table : TableDesign)
     (after : Known) → AreCreated s all tables statements → NamesApart tables → slice_get tables k ≡ Some table
-    → Leads d nothing after (elements_pieces s all table) → 0 < length after.columns
+    → Leads d nothing after (map element_pieces (elements_made s all table)) → 0 < length after.columns
     → Reads (read_statements d (named table.name) statements no_facts) after
 unfolding read_statements
 statements_read d s all [] statements k table after created apart here leads some = cc
@@ -168,7 +169,7 @@ statements_read d s all (first ∷ tables) [] k table after created apart here l
 statements_read d s all (first ∷ tables) (statement ∷ statements) zero table after (own, rest) apart here leads some =
     let same : first ≡ table = cc in
     let (f, read, states) = wanted_read d own.place statement.end table.name after
-    (elements_pieces s all table) leads some in
+    (map element_pieces (elements_made s all table)) leads some in
     let whole = ap (λ (t : TableDesign). read_lexemes d (named table.name) statement.end
     (create_lexemes own.place s all t) no_facts) same in
     let others : All (λ (t : TableDesign). same_name t.name table.name ≡ false) tables =
@@ -193,7 +194,7 @@ statements_read d s all (first ∷ tables) (statement ∷ statements) (suc k) ta
       f,
       ap (λ (o : Outcome). then_read o (read_statements d (named table.name) statements))
           (statement_is d table.name s all first statement no_facts own
-          ∙ other_passed d table.name own.place statement.end first.name (elements_pieces s all first) no_facts far)
+          ∙ other_passed d table.name own.place statement.end first.name (map element_pieces (elements_made s all first)) no_facts far)
           ∙ read,
       states,
     )

@@ -53,5 +53,5 @@ imported_table d s table lines = record {
       (imported_keys s table);
   lines = lines;
   naming = Any;
-  nullable = places_in (columns_of s table) (read_nullable d s);
+  nullable = places_in (columns_of s table) (read_nullable d s table);
 }

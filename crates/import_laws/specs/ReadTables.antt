@@ -1,6 +1,6 @@
 -- What `import` reads of a table that `ddl` prints: for the laws.
 use Rattle.std.specs.Prelude.{◌≡◌, ℕ, true, not, ◌&&◌, if◌then◌else◌, List, [], ◌∷◌, ◌++◌, map, filter, slice_index_or, Option, Some, None}
-use Rattle.attr_sets.specs.Attributes.{Attributes}
+use Rattle.attr_sets.specs.Attributes.{Attributes, difference}
 use Rattle.attr_sets.specs.Sets.{attributes}
 use Rattle.schema_model.specs.declared.column_type.ColumnType.TheVariants as type
 use Rattle.schema_model.specs.Schemas.{Schema}
@@ -21,21 +21,24 @@ use Rattle.import_laws.specs.StatedTypes.{is_serial_type, read_type}
 abbrev pub named : List ℕ → TableName
 named name = record { last = name; middle = None; outer = None }
 
--- the attributes of which a value may be missing where they are read: the nullable ones whose type is not serial
-abbrev pub read_nullable : Dialect → Schema → Attributes
-read_nullable d s k = nullable_of s k && not (is_serial_type d (slice_index_or (types_of s) k type.Text))
+-- the attributes of which a value may be missing where a table is read: the nullable ones outside its key whose type is
+-- not serial
+abbrev pub read_nullable : Dialect → Schema → TableDesign → Attributes
+read_nullable d s table k =
+    difference (nullable_of s) (attributes table.key) k
+    && not (is_serial_type d (slice_index_or (types_of s) k type.Text))
 
 -- the column of an attribute
-abbrev pub read_column : Dialect → Schema → ℕ → StatedColumn
-read_column d s k = record {
+abbrev pub read_column : Dialect → Schema → TableDesign → ℕ → StatedColumn
+read_column d s table k = record {
   name = slice_index_or (names_of s) k [];
   kind = read_type d (slice_index_or (types_of s) k type.Text);
-  never_missing = not (read_nullable d s k);
+  never_missing = not (read_nullable d s table k);
 }
 
--- the columns of a scheme, in order
-abbrev pub read_columns : Dialect → Schema → Attributes → List StatedColumn
-read_columns d s scheme = map (read_column d s) (members_below (width_of s) scheme)
+-- the columns of a table, in order
+abbrev pub read_columns : Dialect → Schema → TableDesign → List StatedColumn
+read_columns d s table = map (read_column d s table) (members_below (width_of s) (attributes table.scheme))
 
 -- a key that is stated, by the names of its parts
 pub record NamedKey : Type 0 where
@@ -57,5 +60,5 @@ read_keys s table =
 -- facts state a table: its columns, and its keys
 pub record StatesTable (d : Dialect) (s : Schema) (table : TableDesign) (f : Facts) : Type 0 where
   pub found : f.found ≡ true
-  pub columns : f.columns ≡ read_columns d s (attributes table.scheme)
+  pub columns : f.columns ≡ read_columns d s table
   pub keys : map named_key f.keys ≡ read_keys s table

@@ -12,9 +12,7 @@ ghost use Rattle.attr_sets.specs.declared.set.AttrSet.{AttrSet};
 ghost use Rattle.schema_model.specs.Columns.{is_column_type};
 ghost use Rattle.schema_model.specs.declared.column_type.ColumnType.{ColumnType};
 ghost use Rattle.schema_model.specs.declared.column_type.ColumnType.TheVariants as type;
-ghost use Rattle.schema_model.specs.Schemas.{nullable_of};
 ghost use Rattle.schema_model.specs.Schemas.{Schema};
-ghost use Rattle.missing_values.specs.Missing.{NeverMissing};
 ghost use Rattle.schema_grammar.specs.Schemas.{MeansSchema};
 ghost use Rattle.table_names.specs.TableNames.{GivenNames};
 ghost use Rattle.ddl_text.specs.Ddl.{ddl_text};
@@ -61,12 +59,11 @@ pub fn designs_define_their_tables()
         → (f : Facts) × (definition_of d (named table.name) (ddl_text s tables) ≡ Ok f) × StatesTable d s table f }
 {}
 
-/// The schema that is imported of a table of a design, where no value of a key or of an attribute of two tables may
-/// be missing, as `ddl` asks: its columns, those of which a value may be missing, and the keys that are stated, but for
-/// one of all columns.
+/// The schema that is imported of a table of a design: its columns, those outside its key of which a value may be
+/// missing, and the keys that are stated, but for one of all columns.
 pub fn designs_are_read_back()
     ensures law { (d : Dialect) (s : Schema) (given : GivenNames) (schemes : List AttrSet) (tables : List TableDesign)
-        (k : ℕ) (table : TableDesign) → IsPrintedDesign d s given schemes tables → NeverMissing (nullable_of s) tables
+        (k : ℕ) (table : TableDesign) → IsPrintedDesign d s given schemes tables
         → slice_get tables k ≡ Some table
         → (printed : List ℕ) × (lines : List ℕ) × (imported_text d (named table.name) (ddl_text s tables) ≡ Ok printed)
         × MeansSchema printed (imported_table d s table lines) }

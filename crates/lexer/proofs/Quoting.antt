@@ -9,28 +9,33 @@ use Rattle.std.specs.Prelude.{nat_lt, nat_le}
 use Rattle.std.specs.List.{starts_with, list_any}
 use Rattle.std.specs.Str.{is_utf8}
 use Rattle.schema_model.specs.declared.name.TheConstants.{MOST_NAME_BYTES}
-use Rattle.schema_model.specs.Names.{IsName, is_control}
+use Rattle.schema_model.specs.Names.{IsName, is_control, begins_with_mark}
 use Rattle.lexer.specs.Quotes.{is_name, further, closing_quote, undoubled}
 
 -- the test of a name
 pub name_test : (name : List ℕ) → (is_name name ≡ true) ↔ IsName name
 name_test name = (
   λ is.
-      let parts = and_parts ((nat_lt 0 (length name) && nat_le (length name) MOST_NAME_BYTES) && not (list_any is_control name))
-      (is_utf8 name) is in
-      let size = and_parts (nat_lt 0 (length name) && nat_le (length name) MOST_NAME_BYTES) (not (list_any is_control name)) parts.0 in
+      let parts = and_parts
+      (((nat_lt 0 (length name) && nat_le (length name) MOST_NAME_BYTES) && not (list_any is_control name))
+      && not (begins_with_mark name)) (is_utf8 name) is in
+      let front = and_parts ((nat_lt 0 (length name) && nat_le (length name) MOST_NAME_BYTES) && not (list_any is_control name))
+      (not (begins_with_mark name)) parts.0 in
+      let size = and_parts (nat_lt 0 (length name) && nat_le (length name) MOST_NAME_BYTES) (not (list_any is_control name)) front.0 in
       let bounds = and_parts (nat_lt 0 (length name)) (nat_le (length name) MOST_NAME_BYTES) size.0 in
       record {
         some_bytes = grind (arith, nat_tests, bounds.0);
         within_limit = grind (arith, nat_tests, bounds.1);
         utf8 = IsUtf8-from_is_utf8 name parts.1;
         no_control = not-true (list_any is_control name) size.1;
+        no_mark = not-true (begins_with_mark name) front.1;
       },
   λ is.
       rw (
         lt-ltb 0 (length name) is.some_bytes,
         le-leb (length name) MOST_NAME_BYTES is.within_limit,
         is.no_control,
+        is.no_mark,
         is_utf8-from_IsUtf8 name is.utf8,
       ) refl,
 )

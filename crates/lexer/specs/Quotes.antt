@@ -3,12 +3,12 @@ use Rattle.std.specs.Prelude.{◌≡◌, ◌≤◌, ℕ, ◌+◌, ◌-◌, true,
 use Rattle.std.specs.List.{list_any}
 use Rattle.std.specs.Str.{is_utf8}
 use Rattle.schema_model.specs.declared.name.TheConstants.{MOST_NAME_BYTES}
-use Rattle.schema_model.specs.Names.{is_control}
+use Rattle.schema_model.specs.Names.{is_control, begins_with_mark}
 
 -- whether bytes are a name, `IsName` as a test
 abbrev pub is_name : List ℕ → Bool
-is_name bytes = ((nat_lt 0 (length bytes) && nat_le (length bytes) MOST_NAME_BYTES)
-    && not (list_any is_control bytes)) && is_utf8 bytes
+is_name bytes = (((nat_lt 0 (length bytes) && nat_le (length bytes) MOST_NAME_BYTES)
+    && not (list_any is_control bytes)) && not (begins_with_mark bytes)) && is_utf8 bytes
 
 -- so many bytes more, where there is a number
 abbrev pub further : ℕ → Option ℕ → Option ℕ

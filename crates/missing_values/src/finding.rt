@@ -1,90 +1,52 @@
-ghost use Rattle.std.specs.Prelude.{◌<◌, ◌≤◌, ℕ, length, IfSome};
+ghost use Rattle.std.specs.Prelude.{length, IfSome};
 ghost use Rattle.attr_sets.specs.Sets.{attributes};
-ghost use Rattle.attr_sets.specs.declared.set.TheConstants.{MOST_ATTRIBUTES};
 ghost use Rattle.schema_model.specs.Schemas.{width_of, nullable_of};
-ghost use Rattle.missing_values.specs.Missing.{HasAt, AreBefore, IsInKeyAt, FindsAt, FindsMissing};
+ghost use Rattle.optional_tables.specs.Hindrances.{IsStuckAt};
+ghost use Rattle.missing_values.specs.Missing.{FindsMissing, IsLeastInKey};
 ghost use Rattle.missing_values.specs.Refusals.{IsWithin};
 
 use crate::MissingRefusal;
 use attr_sets::AttrSet;
-use ddl_text::TableDesign;
+use optional_tables::{KeyedScheme, first_shared, first_stuck};
 use schema_model::Schema;
 
-/// The first attribute of which a value may be missing in the key of a table or in two tables: tables in
-/// order, at one table first the least such attribute of its key, and then the least that an earlier table
-/// has too, with the first such table.
-pub fn missing_refusal(schema: &Schema, tables: &[TableDesign]) -> Option<MissingRefusal>
+/// What keeps the tables of a design from being read back: the first optional table that cannot be looked up, with the
+/// least attribute of its key of which a value may be missing; where there is none, the first table that is a home of
+/// an attribute of which an earlier table is one too, with its least such attribute and the first home of that.
+pub fn missing_refusal(schema: &Schema, tables: &[KeyedScheme]) -> Option<MissingRefusal>
     ensures finds { FindsMissing (nullable_of schema.now) tables.now result }
     ensures within { IfSome result (IsWithin (width_of schema.now) (length tables.now)) }
 {
-    let nullable = schema.nullable();
-    let mut before = AttrSet::empty();
-    for k in 0..tables.len() {
-        let found = refusal_at(nullable, tables, before, k);
-        if found.is_some() {
-            return found;
-        }
-        before = before.union(tables[k].scheme);
-    }
-    None
+    refusal_of(schema.nullable(), tables)
 }
 
-// What is found at one table, where these attributes stand in those before it.
-fn refusal_at(
-    nullable: AttrSet,
-    tables: &[TableDesign],
-    before: AttrSet,
-    k: usize,
-) -> Option<MissingRefusal>
-    requires position { k < length tables.now }
-    requires before { AreBefore tables.now k (attributes before) }
-    ensures finds { FindsAt (attributes nullable) tables.now k result }
+// The same, where these attributes may be missing.
+fn refusal_of(nullable: AttrSet, tables: &[KeyedScheme]) -> Option<MissingRefusal>
+    ensures finds { FindsMissing (attributes nullable) tables.now result }
+{
+    match first_stuck(nullable, tables) {
+        Some(table) => Some(MissingRefusal::InKey {
+            attribute: least_in_key(nullable, tables, table),
+            table,
+        }),
+        None => match first_shared(nullable, tables) {
+            Some(shared) => Some(MissingRefusal::InTwo {
+                attribute: shared.attribute,
+                earlier: shared.earlier,
+                table: shared.table,
+            }),
+            None => None,
+        },
+    }
+}
+
+// The least attribute of the key of an optional table of which a value may be missing.
+fn least_in_key(nullable: AttrSet, tables: &[KeyedScheme], k: usize) -> u8
+    requires stuck { IsStuckAt (attributes nullable) tables.now k }
+    ensures least { IsLeastInKey (attributes nullable) tables.now k result }
 {
     match tables[k].key.intersection(nullable).first() {
-        Some(attribute) => Some(MissingRefusal::InKey {
-            attribute,
-            table: k,
-        }),
-        None => shared_at(nullable, tables, before, k),
+        Some(attribute) => attribute,
+        None => unreachable!(),
     }
-}
-
-// What is found at one table of whose key no value may be missing.
-fn shared_at(
-    nullable: AttrSet,
-    tables: &[TableDesign],
-    before: AttrSet,
-    k: usize,
-) -> Option<MissingRefusal>
-    requires position { k < length tables.now }
-    requires before { AreBefore tables.now k (attributes before) }
-    requires key { (a : ℕ) → IsInKeyAt (attributes nullable) tables.now k a → ⊥ }
-    ensures finds { FindsAt (attributes nullable) tables.now k result }
-{
-    let shared = tables[k].scheme.intersection(before);
-    match shared.intersection(nullable).first() {
-        Some(attribute) => Some(MissingRefusal::InTwo {
-            attribute,
-            earlier: first_with(tables, k, attribute),
-            table: k,
-        }),
-        None => None,
-    }
-}
-
-// The first table that has an attribute, where one before a position has it.
-fn first_with(tables: &[TableDesign], end: usize, attribute: u8) -> usize
-    requires position { end ≤ length tables.now }
-    requires attribute { attribute < MOST_ATTRIBUTES }
-    requires some { (j : ℕ) × (j < end) × HasAt tables.now j attribute }
-    ensures before { result < end }
-    ensures has { HasAt tables.now result attribute }
-    ensures first { (i : ℕ) → i < result → HasAt tables.now i attribute → ⊥ }
-{
-    for j in 0..end {
-        if tables[j].scheme.contains(attribute) {
-            return j;
-        }
-    }
-    unreachable!();
 }

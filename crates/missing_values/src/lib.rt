@@ -1,9 +1,10 @@
-//! Attributes of which a value may be missing, in the tables of a design: where one stands in a
-//! key, SQL would not compare its missing values, and where one stands in two tables, the join of
-//! the tables would lack rows.
+//! What keeps the tables of a design from being read back where values may be missing: an optional
+//! table cannot be looked up, or an attribute of which a value may be missing stands in two tables
+//! outside their keys.
 //!
-//! Promises: `missing_refusal` finds the first such attribute of a key or of two tables, table by
-//! table, and none where there is none; `print_refusal` gives the line that says so.
+//! Promises: `missing_refusal` finds the first optional table that cannot be looked up, or else the
+//! first such attribute of two tables, and none where there is none; `print_refusal` gives the line
+//! that says so.
 #![tactic(auto)]
 
 mod finding;

@@ -173,9 +173,9 @@ pub fn right_side(theory: &Theory, scheme: AttrSet, form: Form, lhs: AttrSet) ->
     }
 }
 
-// The part of a left side with the first attribute beyond it; the empty set where nothing lies
-// beyond it.
-fn first_part(theory: &Theory, scheme: AttrSet, lhs: AttrSet) -> AttrSet
+/// The part of a left side with the first attribute beyond it; the empty set where nothing lies beyond
+/// it.
+pub fn first_part(theory: &Theory, scheme: AttrSet, lhs: AttrSet) -> AttrSet
     requires scheme { IsSubset (attributes scheme) (universe_of theory.now) }
     requires lhs { IsSubset (attributes lhs) (attributes scheme) }
     ensures first { (a : ℕ) → IsFirstFrom (difference (attributes scheme) (attributes lhs)) 0 a

@@ -1,17 +1,17 @@
 -- What is printed of a design rests on the fields that make two designs the same.
-use Rattle.std.proofs.Common.{◌≡◌, ◌++◌, ℕ, zero, suc, Bool, false, List, [], ◌∷◌, map, Option, None, Some, Vec, refl, sym, ap, ◌∙◌}
+use Rattle.std.proofs.Common.{◌≡◌, ◌++◌, ℕ, zero, suc, Bool, List, [], ◌∷◌, get_or, map, refl, ap, ◌∙◌}
 use mathlib.Core.Path.{fun_ext}
 use Rattle.std.specs.Prelude.{if◌then◌else◌, codes, is_some, slice_get, unwrap_or, option_map}
 use Rattle.std.specs.List.{flat_map}
-use Rattle.std.specs.declared.alloc.Global.{Global}
-use Rattle.attr_sets.specs.Attributes.{Attributes}
+use Rattle.attr_sets.specs.Attributes.{Attributes, difference}
 use Rattle.attr_sets.specs.Sets.{attributes}
-use Rattle.attr_sets.specs.declared.set.AttrSet.{AttrSet}
 use Rattle.schema_model.specs.Schemas.{Schema}
-use Rattle.ddl_text.specs.Ddl.{column_elements, comment, ddl_text, element_lines, elements, is_empty, key_comment, key_elements, keys_elements, left_out_lines, unique_elements, reference_element, reference_elements, table_text}
+use Rattle.schema_model.specs.Schemas.{nullable_of}
+use Rattle.ddl_text.specs.Ddl.{columns_made, columns_of_set, ddl_text, elements_made, is_empty, key_made, keys_made, left_out_keys, left_out_words, reference_made, references_made, references_to, remarks_made, said_of, table_made, tables_made, uniques_made}
 use Rattle.ddl_text.specs.Designs.{known_keys}
 use Rattle.ddl_text.specs.declared.table.TableDesign.{TableDesign}
 use Rattle.sql_syntax.specs.Names.{quoted_name}
+use Rattle.sql_syntax.specs.Statements.{Element, Statement, remark, create_table, script_text}
 use Rattle.table_drawing.specs.Drawing.{node_head, node_text, edge_text, edges_text, drawing_text}
 use Rattle.plan_laws.specs.SameDesigns.{IsSameTable, AreSameTables}
 
@@ -36,74 +36,72 @@ found_same f g each (t ∷ ts) [] same j = absurd same
 found_same f g each (t ∷ ts) (u ∷ us) same zero = each t u same.0
 found_same f g each (t ∷ ts) (u ∷ us) same (suc j) = found_same f g each ts us same.1 j
 
--- ---- SQL
-reference_same : (s : Schema) (t u : TableDesign) → IsSameTable t u → reference_element s t ≡ reference_element s u
-unfolding reference_element
+-- ---- tables that are made
+reference_same : (s : Schema) (t u : TableDesign) → IsSameTable t u → reference_made s t ≡ reference_made s u
 reference_same s t u same = simp (same.name, same.key)
 
-references_same : (s : Schema) (one other : List TableDesign) → AreSameTables one other → (refs : List ℕ)
-    → reference_elements s one refs ≡ reference_elements s other refs
-references_same s one other same refs =
-    ap (λ (text : ℕ → List ℕ). map text refs)
-    (fun_ext (found_same (reference_element s) (reference_element s) (reference_same s) one other same))
+made_same : (s : Schema) (one other : List TableDesign) → AreSameTables one other → (t u : TableDesign) → IsSameTable t u → (j : ℕ)
+    → reference_made s (get_or one j t) ≡ reference_made s (get_or other j u)
+made_same s [] [] same t u alike j = reference_same s t u alike
+made_same s [] (v ∷ vs) same t u alike j = absurd same
+made_same s (v ∷ vs) [] same t u alike j = absurd same
+made_same s (v ∷ vs) (w ∷ ws) same t u alike zero = reference_same s v w same.0
+made_same s (v ∷ vs) (w ∷ ws) same t u alike (suc j) = made_same s vs ws same.1 t u alike j
 
-keys_same : (s : Schema) (t u : TableDesign) → IsSameTable t u → keys_elements s t ≡ keys_elements s u
+references_same : (s : Schema) (one other : List TableDesign) → AreSameTables one other → (t u : TableDesign) → IsSameTable t u
+    → references_made s one t ≡ references_made s other u
+references_same s one other same t u alike =
+    ap (λ (made : ℕ → Element). map made t.refs.items) (fun_ext (made_same s one other same t u alike))
+    ∙ ap (λ (refs : List ℕ). references_to s other u refs) alike.references
+
+columns_same : (s : Schema) (t u : TableDesign) → IsSameTable t u → columns_made s t ≡ columns_made s u
+columns_same s t u alike =
+    ap (λ (x : Attributes). columns_of_set s (difference (nullable_of s) (attributes t.key)) x) alike.columns
+    ∙ ap (λ (x : Attributes). columns_of_set s (difference (nullable_of s) x) (attributes u.scheme)) alike.key
+
+keys_same : (s : Schema) (t u : TableDesign) → IsSameTable t u → keys_made s t ≡ keys_made s u
 keys_same s t u alike =
-    ap (λ (x : Attributes). key_elements s x ++ unique_elements s (known_keys t.other_keys)) alike.key
-    ∙ ap (λ (keys : List Attributes). key_elements s (attributes u.key) ++ unique_elements s keys) alike.other_keys
+    ap (λ (x : Attributes). key_made s x ++ uniques_made s (known_keys t.other_keys)) alike.key
+    ∙ ap (λ (keys : List Attributes). key_made s (attributes u.key) ++ uniques_made s keys) alike.other_keys
 
--- what is said of other keys rests on which are known, and on whether any are
-said_known : (s : Schema) (others : Option (Vec AttrSet Global))
-    → key_comment s others
-    ≡ (if is_some others then left_out_lines s (known_keys others) else codes "-- further keys are not looked for\n")
-said_known s None = refl
-said_known s (Some keys) = refl
-
-comment_same : (s : Schema) (t u : TableDesign) → IsSameTable t u → comment s t ≡ comment s u
-comment_same s t u alike =
-    ap (λ (others : List ℕ). if is_empty (attributes t.key) then codes "-- at most one row\n" else others)
-    (said_known s t.other_keys)
-    ∙ ap (λ (key : Attributes). said key (is_some t.other_keys) (known_keys t.other_keys)) alike.key
+said_same : (s : Schema) (t u : TableDesign) → IsSameTable t u → said_of s t ≡ said_of s u
+said_same s t u alike =
+    ap (λ (key : Attributes). said key (is_some t.other_keys) (known_keys t.other_keys)) alike.key
     ∙ ap (λ (known : Bool). said (attributes u.key) known (known_keys t.other_keys)) alike.are_known
     ∙ ap (λ (keys : List Attributes). said (attributes u.key) (is_some u.other_keys) keys) alike.other_keys
-    ∙ sym (ap (λ (others : List ℕ). if is_empty (attributes u.key) then codes "-- at most one row\n" else others)
-    (said_known s u.other_keys))
   where
-    said : Attributes → Bool → List Attributes → List ℕ
+    said : Attributes → Bool → List Attributes → List (List ℕ)
     said key known keys =
-        if is_empty key then codes "-- at most one row\n"
-        else if known then left_out_lines s keys else codes "-- further keys are not looked for\n"
+        if is_empty key then codes "at most one row" ∷ []
+        else if known then map (left_out_words s) (left_out_keys s keys) else codes "further keys are not looked for" ∷ []
 
-elements_same : (s : Schema) (one other : List TableDesign) → AreSameTables one other → (t u : TableDesign)
-    → IsSameTable t u → elements s one t ≡ elements s other u
+elements_same : (s : Schema) (one other : List TableDesign) → AreSameTables one other → (t u : TableDesign) → IsSameTable t u
+    → elements_made s one t ≡ elements_made s other u
 elements_same s one other same t u alike =
-    ap (λ (x : Attributes).
-    column_elements s x ++ keys_elements s t ++ reference_elements s one t.refs.items) alike.columns
-    ∙ ap (λ (keys : List (List ℕ)).
-    column_elements s (attributes u.scheme) ++ keys ++ reference_elements s one t.refs.items) (keys_same s t u alike)
-    ∙ ap (λ (refs : List ℕ).
-    column_elements s (attributes u.scheme) ++ keys_elements s u ++ reference_elements s one refs)
-    alike.references
-    ∙ ap (λ (texts : List (List ℕ)).
-    column_elements s (attributes u.scheme) ++ keys_elements s u ++ texts)
-    (references_same s one other same u.refs.items)
+    ap (λ (columns : List Element). columns ++ keys_made s t ++ references_made s one t) (columns_same s t u alike)
+    ∙ ap (λ (keys : List Element). columns_made s u ++ keys ++ references_made s one t) (keys_same s t u alike)
+    ∙ ap (λ (refs : List Element). columns_made s u ++ keys_made s u ++ refs) (references_same s one other same t u alike)
 
-table_same : (s : Schema) (one other : List TableDesign) → AreSameTables one other → (t u : TableDesign)
-    → IsSameTable t u → table_text s one t ≡ table_text s other u
-unfolding table_text
+table_same : (s : Schema) (one other : List TableDesign) → AreSameTables one other → (t u : TableDesign) → IsSameTable t u
+    → table_made s one t ≡ table_made s other u
 table_same s one other same t u alike =
-    ap (λ (elements : List (List ℕ)). written (comment s t) t.name elements) (elements_same s one other same t u alike)
-    ∙ ap (λ (name : List ℕ). written (comment s t) name (elements s other u)) alike.name
-    ∙ ap (λ (said : List ℕ). written said u.name (elements s other u)) (comment_same s t u alike)
-  where
-    written : List ℕ → List ℕ → List (List ℕ) → List ℕ
-    written said name elements =
-        said ++ codes "CREATE TABLE " ++ quoted_name name ++ codes " (\n" ++ element_lines false elements ++ codes "\n);\n"
+    ap (λ (words : List (List ℕ)). map remark words ++ create_table (quoted_name t.name) (elements_made s one t) ∷ []) (said_same s t u alike)
+    ∙ ap (λ (name : List ℕ). remarks_made s u ++ create_table (quoted_name name) (elements_made s one t) ∷ []) alike.name
+    ∙ ap (λ (elements : List Element). remarks_made s u ++ create_table (quoted_name u.name) elements ∷ [])
+    (elements_same s one other same t u alike)
+
+pub tables_same : (s : Schema) (all every one other : List TableDesign) → AreSameTables all every → AreSameTables one other
+    → tables_made s all one ≡ tables_made s every other
+tables_same s all every [] [] whole same = refl
+tables_same s all every [] (u ∷ us) whole same = absurd same
+tables_same s all every (t ∷ ts) [] whole same = absurd same
+tables_same s all every (t ∷ ts) (u ∷ us) whole same =
+    ap (λ (made : List Statement). made ++ tables_made s all ts) (table_same s all every whole t u same.0)
+    ∙ ap (λ (rest : List Statement). table_made s every u ++ rest) (tables_same s all every ts us whole same.1)
 
 pub ddl_same : (s : Schema) (one other : List TableDesign) → AreSameTables one other
     → ddl_text s one ≡ ddl_text s other
-ddl_same s one other same =
-    flat_same (table_text s one) (table_text s other) (table_same s one other same) one other same
+ddl_same s one other same = ap script_text (tables_same s one other one other same same)
 
 -- ---- pictures
 node_same : (s : Schema) (t u : TableDesign) → IsSameTable t u → node_text s t ≡ node_text s u

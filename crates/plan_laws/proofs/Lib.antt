@@ -3,12 +3,14 @@ pub mod FormPlans
 pub mod PlanLengths
 mod DesignedLaws
 mod RejoinedLaws
+mod LookedUpLaws
 pub mod UniqueLaws
 pub mod FormTables
 pub mod NameLaws
 pub mod OrderedNames
 pub mod OneDesign
 mod DesignTexts
+mod LookUpTexts
 mod ScriptTexts
 pub mod MissingAnswers
 pub mod SplitAnswers
@@ -20,5 +22,7 @@ pub mod SampleAnswers
 pub mod ReasonAnswers
 pub mod FormAnswers
 mod OneGrouping
+mod OrderAlike
 pub mod FewestAnswers
 mod FewestPlans
+mod TidyAnswers

@@ -1,15 +1,17 @@
 -- A plan is refused in one way for what may be missing: its designs are the same, and one thing is found first.
-use Rattle.std.proofs.Common.{◌≡◌, ℕ, true, List, Option, Some, None, sym, subst, ap, ◌∙◌, inl, inr}
+use Rattle.std.proofs.Common.{◌≡◌, ℕ, List, [], ◌∷◌, map, Option, Some, None, sym, subst, ap, ◌∙◌, inl, inr}
 use Rattle.std.specs.Prelude.{unwrap_or}
 use Rattle.attr_sets.specs.Attributes.{Attributes}
-use Rattle.attr_sets.specs.Sets.{attributes}
 use Rattle.attr_sets.specs.declared.set.AttrSet.{AttrSet}
 use Rattle.dep_model.specs.Plans.{schemes_of}
 use Rattle.schema_model.specs.Schemas.{nullable_of}
 use Rattle.schema_model.specs.Schemas.{Schema}
+use Rattle.ddl_text.specs.Designs.{keyed}
 use Rattle.ddl_text.specs.declared.table.TableDesign.{TableDesign}
-use Rattle.missing_values.proofs.OneMissing.{one_missing}
-use Rattle.missing_values.specs.Missing.{FindsMissing, HasAt, IsFineAt, IsInKeyAt, IsSharedAt, KeyHasAt}
+use Rattle.optional_tables.proofs.AlikeLemmas.{AreAlike}
+use Rattle.missing_values.proofs.FindingLemmas.{finds_alike}
+use Rattle.missing_values.proofs.OneMissing.{found_or_none, one_missing}
+use Rattle.missing_values.specs.Missing.{FindsMissing}
 use Rattle.missing_values.specs.Refusals.{in_key_text, in_two_text, name_at, refusal_text}
 use Rattle.missing_values.specs.declared.refusal.MissingRefusal.{MissingRefusal}
 use Rattle.missing_values.specs.declared.refusal.MissingRefusal.TheVariants.{InKey, InTwo}
@@ -18,67 +20,25 @@ use Rattle.implication_laws.specs.OneAnswer.{AllowsOne}
 use Rattle.implication_laws.proofs.StepLaws.{same_says, Unless-one}
 use Rattle.desk_responses.specs.ResponseValues.{Allowed, ResponseValue}
 use Rattle.desk_responses.specs.declared.status.Status.TheVariants.{Refused}
-use Rattle.desk_designs.specs.Designs.{AreNeverMissing, IsDesignOf, MissingStops, WithoutMissing}
+use Rattle.desk_designs.specs.Designs.{AreReadable, IsDesignOf, MissingStops, WithoutMissing}
 use Rattle.plan_laws.proofs.DesignTexts.{found_same}
-use Rattle.plan_laws.proofs.OneDesign.{one_sound_design, some_there, tables_back}
+use Rattle.plan_laws.proofs.OneDesign.{one_sound_design}
 use Rattle.plan_laws.specs.SameDesigns.{AreSameTables}
 
 -- ---- designs that are the same
--- what a table has, the table at the same position of the other design has
+-- their schemes and keys are alike
+pub keyed_alike : (one other : List TableDesign) → AreSameTables one other → AreAlike (map keyed one) (map keyed other)
+keyed_alike [] [] same = tt
+keyed_alike [] (u ∷ us) same = absurd same
+keyed_alike (t ∷ ts) [] same = absurd same
+keyed_alike (t ∷ ts) (u ∷ us) same =
+    (record { scheme = same.0.columns; key = same.0.key }, keyed_alike ts us same.1)
+
+-- so the same is found in both, and said
 module _ (nullable : Attributes) (one other : List TableDesign) (same : AreSameTables one other) where
-  has_there : (k a : ℕ) → HasAt one k a → HasAt other k a
-  has_there k a =
-      some_there (λ t. attributes t.scheme a ≡ true) (λ t. attributes t.scheme a ≡ true)
-      (λ t u alike member. subst (λ (x : Attributes). x a ≡ true) alike.columns member) one other same k
-
-  key_has_there : (k a : ℕ) → KeyHasAt one k a → KeyHasAt other k a
-  key_has_there k a =
-      some_there (λ t. attributes t.key a ≡ true) (λ t. attributes t.key a ≡ true)
-      (λ t u alike member. subst (λ (x : Attributes). x a ≡ true) alike.key member) one other same k
-
-  in_key_there : (k a : ℕ) → IsInKeyAt nullable one k a → IsInKeyAt nullable other k a
-  in_key_there k a is = record { missing = is.missing; in_key = key_has_there k a is.in_key }
-
-  shared_there : (j k a : ℕ) → IsSharedAt nullable one j k a → IsSharedAt nullable other j k a
-  shared_there j k a is = record {
-    missing = is.missing;
-    before = is.before;
-    in_earlier = has_there j a is.in_earlier;
-    in_later = has_there k a is.in_later;
-  }
-
--- so the same is found in both
-module _ (nullable : Attributes) (one other : List TableDesign) (same : AreSameTables one other) where
-  in_key_back : (k a : ℕ) → IsInKeyAt nullable other k a → IsInKeyAt nullable one k a
-  in_key_back = in_key_there nullable other one (tables_back one other same)
-
-  shared_back : (j k a : ℕ) → IsSharedAt nullable other j k a → IsSharedAt nullable one j k a
-  shared_back = shared_there nullable other one (tables_back one other same)
-
-  fine_there : (k : ℕ) → IsFineAt nullable one k → IsFineAt nullable other k
-  fine_there k fine = record {
-    key = λ a is. fine.key a (in_key_back k a is);
-    shared = λ a j is. fine.shared a j (shared_back j k a is);
-  }
-
-  pub finds_there : (found : Option MissingRefusal) → FindsMissing nullable one found → FindsMissing nullable other found
-  finds_there None never = λ k. fine_there k (never k)
-  finds_there (Some (InKey a k)) (before, is) = (
-    λ i less. fine_there i (before i less),
-    record {
-      here = in_key_there nullable one other same k a is.here;
-      least = λ b less has. is.least b less (in_key_back k b has);
-    },
-  )
-  finds_there (Some (InTwo a j k)) (before, is) = (
-    λ i less. fine_there i (before i less),
-    record {
-      key = λ b has. is.key b (in_key_back k b has);
-      here = shared_there nullable one other same j k a is.here;
-      least = λ b i less has. is.least b i less (shared_back i k b has);
-      first = λ i less has. is.first i less (shared_back i k a has);
-    },
-  )
+  pub finds_there : (found : Option MissingRefusal) → FindsMissing nullable (map keyed one) found
+      → FindsMissing nullable (map keyed other) found
+  finds_there found = finds_alike nullable (map keyed one) (map keyed other) found (keyed_alike one other same)
 
   name_same : (k : ℕ) → name_at one k ≡ name_at other k
   name_same =
@@ -100,20 +60,15 @@ one_missing_stop : (s : Schema) (names : GivenNames) (schemes : List Attributes)
 one_missing_stop s names schemes one other (tables, is, (refusal, finds, says)) (designs, also, (another, found, said)) =
     let same = one_design_of s names schemes tables designs is also in
     let there = finds_there (nullable_of s) tables designs same (Some refusal) finds in
-    let found_one = one_missing (nullable_of s) designs (Some refusal) (Some another) there found in
+    let found_one = one_missing (nullable_of s) (map keyed designs) (Some refusal) (Some another) there found in
     same_says Refused _ _ one other says said
     (refusal_same (nullable_of s) tables designs same s refusal
     ∙ ap (λ (first : Option MissingRefusal). refusal_text s designs (unwrap_or first refusal)) found_one)
 
-found_or_none : (nullable : Attributes) (tables : List TableDesign) (refusal : MissingRefusal)
-    → FindsMissing nullable tables None → FindsMissing nullable tables (Some refusal) → ⊥
-found_or_none nullable tables (InKey a k) never found = (never k).key a found.1.here
-found_or_none nullable tables (InTwo a j k) never found = (never k).shared a j found.1.here
-
-missing_goes : (s : Schema) (names : GivenNames) (schemes : List Attributes) (response : ResponseValue) → AreNeverMissing s names schemes
+missing_goes : (s : Schema) (names : GivenNames) (schemes : List Attributes) (response : ResponseValue) → AreReadable s names schemes
     → MissingStops s names schemes response → ⊥
 missing_goes s names schemes response (tables, is, never) (designs, also, (refusal, found, says)) =
-    found_or_none (nullable_of s) designs refusal
+    found_or_none (nullable_of s) (map keyed designs) refusal
     (finds_there (nullable_of s) tables designs (one_design_of s names schemes tables designs is also) None never) found
 
 -- ---- answers
@@ -121,7 +76,7 @@ missing_goes s names schemes response (tables, is, never) (designs, also, (refus
 pub one_without_missing : (s : Schema) (names : GivenNames) (schemes : List Attributes) (rest : Allowed) → AllowsOne rest
     → AllowsOne (WithoutMissing s names schemes rest)
 one_without_missing s names schemes rest one_rest =
-    Unless-one (MissingStops s names schemes) (AreNeverMissing s names schemes) rest (one_missing_stop s names schemes)
+    Unless-one (MissingStops s names schemes) (AreReadable s names schemes) rest (one_missing_stop s names schemes)
     (λ response passed stops. missing_goes s names schemes response passed stops) (λ passed. one_rest)
 
 -- the same of plans of the same schemes, where what follows rests on the sets of a plan alone
@@ -139,6 +94,6 @@ same_without_missing s names rest alike plan others one other at (inl stops) (in
     (subst (λ (schemes : List Attributes). MissingStops s names schemes one) at stops))
 same_without_missing s names rest alike plan others one other at (inr (passed, answers)) (inl stops) =
     absurd (missing_goes s names (schemes_of others) other
-    (subst (λ (schemes : List Attributes). AreNeverMissing s names schemes) at passed) stops)
+    (subst (λ (schemes : List Attributes). AreReadable s names schemes) at passed) stops)
 same_without_missing s names rest alike plan others one other at (inr (passed, answers)) (inr (also, again)) =
     alike plan others one other at answers again

@@ -3,13 +3,14 @@
 use Rattle.std.proofs.Common.{◌≡◌, ◌<◌, ◌^◌, ℕ, List, [], length, get_or, ap, ◌∙◌, sym, arith}
 use Rattle.std.specs.Prelude.{◌≢◌, AllPairs}
 use Rattle.std.proofs.lemmas.Bool.{true≢false}
-use Rattle.attr_sets.specs.Attributes.{Attributes, below}
+use Rattle.attr_sets.specs.Attributes.{Attributes}
 use Rattle.schema_model.specs.Names.{same_name}
 use Rattle.dep_model.specs.Tuples.{Relation}
 use Rattle.schema_model.specs.Schemas.{Schema}
 use Rattle.plan_printer.specs.NamedPlans.{AreApart}
 use Rattle.named_tables.specs.Tables.{TableValue}
 use Rattle.table_names.specs.TableNames.{GivenNames, name_of_table}
+use Rattle.optional_tables.proofs.HomeLemmas.{no_table}
 use Rattle.desk_tables.specs.Migrations.{AreTablesOf}
 use Rattle.plan_printer.proofs.NameLemmas.{same_itself, tables_named_apart}
 use Rattle.plan_laws.proofs.DesignedLaws.{from_zero, tables_length, table_at}
@@ -28,8 +29,8 @@ names_differ s names plan rows tables apart are short i j d less within = λ sam
     name k lt =
         ap (λ (t : TableValue). t.name)
         (ap (λ (l : List TableValue). get_or l k d) are.projections
-        ∙ table_at s names rows 0 are.ordered k (below 0) d
-        (omega (arith, lt, ap length are.projections, tables_length s names rows 0 are.ordered)))
+        ∙ table_at s names rows 0 are.design k no_table d
+        (omega (arith, lt, ap length are.projections, tables_length s names rows 0 are.design)))
         ∙ from_zero names k
 
 pub none_given : AreApart []

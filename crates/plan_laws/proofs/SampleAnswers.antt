@@ -1,14 +1,16 @@
 -- `sample` has one answer, since two schemas of the sample have the same names and dependencies.
-use Rattle.std.proofs.Common.{◌≡◌, ◌+◌, ◌<◌, ◌^◌, ℕ, Bool, List, [], ◌∷◌, length, map, refl, sym, ap, ap₂, subst, ◌∙◌, inl, inr}
+use Rattle.std.proofs.Common.{◌≡◌, ◌+◌, ◌<◌, ◌^◌, ℕ, false, get_or, List, [], ◌∷◌, length, map, refl, sym, ap, ap₂, subst, ◌∙◌, inl, inr}
 use mathlib.Core.Path.{fun_ext}
 use Rattle.std.specs.Prelude.{All}
-use Rattle.attr_sets.specs.Attributes.{Attributes}
+use Rattle.std.proofs.lemmas.Bool.{true≢false}
+use Rattle.attr_sets.specs.Attributes.{Attributes, difference}
+use Rattle.attr_sets.specs.Sets.{attributes}
 use Rattle.attr_sets.specs.declared.set.AttrSet.{AttrSet}
-use Rattle.csv_migrate.specs.Migration.{tables_from, JoinIs}
+use Rattle.csv_migrate.specs.Migration.{tables_from, JoinIs, ReadsBack}
 use Rattle.dep_model.specs.Dependencies.{Dependency}
 use Rattle.dep_model.specs.Implication.{IsLegal}
 use Rattle.dep_model.specs.Plans.{schemes_of}
-use Rattle.dep_model.specs.Projections.{members_below, ordered_projection, IsLossless}
+use Rattle.dep_model.specs.Projections.{members_below, IsLossless}
 use Rattle.schema_model.specs.Schemas.{names_of, naming_of, nullable_of, width_of, theory_of, LegalFor}
 use Rattle.dep_model.specs.Tuples.{Relation}
 use Rattle.schema_model.specs.declared.naming.Naming.{Naming}
@@ -30,6 +32,12 @@ use Rattle.desk_designs.specs.Decompositions.{IsSplitInForm, SplitStops, WithPla
 use Rattle.desk_responses.specs.Lines.{too_wide_text}
 use Rattle.desk_responses.specs.ResponseValues.{ResponseValue, RespondsWithTables, text_only}
 use Rattle.desk_responses.specs.declared.status.Status.TheVariants.{Refused}
+use Rattle.lookup_laws.proofs.MissingLemmas.{disjoint_misses_none, empty_is_missing}
+use Rattle.optional_tables.specs.Homes.{is_optional}
+use Rattle.optional_tables.specs.LookUps.{CanBeReadBack, IsTidyFor, empty_values, rows_for, schemes_of_tables}
+use Rattle.optional_tables.specs.declared.keyed.KeyedScheme.{KeyedScheme}
+use Rattle.primary_keys.specs.PrimaryKeys.{IsPrimaryKey}
+use Rattle.desk_tables.specs.Tidiness.{AreTidy, IsKeyedDesign}
 use Rattle.desk_tables.specs.Migrations.{GivesTables, IsSampleSchema, MigratesRows, Samples, migrated_text}
 use Rattle.plan_laws.proofs.RowAnswers.{same_migrated}
 use Rattle.plan_laws.proofs.SplitAnswers.{one_in_form}
@@ -69,45 +77,70 @@ module _ (s t : Schema) (first : IsSampleSchema s) (second : IsSampleSchema t) w
     in_form = moved (λ n ds. All (IsInForm n ds Fourth) (schemes_of plan)) is.in_form;
   }
 
-  abbrev made : ℕ → List (List ℕ) → List Bool → Relation → TableValue
-  made number columns nullable rows =
-      record { name = name_of_table [] number; columns = columns; nullable = nullable; rows = rows }
-
-  -- whether a value of each attribute of a scheme may be missing, by a width and a set
-  abbrev flags : ℕ → Attributes → Attributes → List Bool
-  flags n nullable scheme = map nullable (members_below n scheme)
-
   -- a schema of bare names has no value that may be missing
   same_nullable : nullable_of s ≡ nullable_of t
   same_nullable = fun_ext (λ (k : ℕ).
       (s.typed.bare first.bare).none_nullable k ∙ sym ((t.typed.bare second.bare).none_nullable k))
 
-  same_flags : (scheme : Attributes) → flags (width_of s) (nullable_of s) scheme ≡ flags (width_of t) (nullable_of t) scheme
-  same_flags scheme =
-      ap (λ (names : List (List ℕ)). flags (length names) (nullable_of s) scheme) same_names
-      ∙ ap (λ (nullable : Attributes). flags (width_of t) nullable scheme) same_nullable
+  -- the same where it is also said of the attributes of which a value may be missing
+  moved_all : (P : ℕ → List Dependency → Attributes → Type 0) → P (width_of s) (theory_of s) (nullable_of s)
+      → P (width_of t) (theory_of t) (nullable_of t)
+  moved_all P is =
+      moved (λ n ds. P n ds (nullable_of t)) (subst (λ (x : Attributes). P (width_of s) (theory_of s) x) same_nullable is)
 
-  same_tables : (rows : Relation) (number : ℕ) (plan : List Attributes)
-      → tables_from s [] rows number plan ≡ tables_from t [] rows number plan
+  -- the table of a scheme with its key, by the names, the width and what may be missing
+  abbrev made : ℕ → KeyedScheme → Relation → List (List ℕ) → ℕ → Attributes → TableValue
+  made number table rows names n nullable = record {
+    name = name_of_table [] number;
+    columns = members_from (attributes table.scheme) 0 names;
+    nullable = map (difference nullable (attributes table.key)) (members_below n (attributes table.scheme));
+    rows = rows_for (empty_values nullable) rows table;
+  }
+
+  same_table : (rows : Relation) (number : ℕ) (table : KeyedScheme)
+      → made number table rows (names_of s) (width_of s) (nullable_of s) ≡ made number table rows (names_of t) (width_of t) (nullable_of t)
+  same_table rows number table =
+      ap (λ (names : List (List ℕ)). made number table rows names (length names) (nullable_of s)) same_names
+      ∙ ap (λ (nullable : Attributes). made number table rows (names_of t) (width_of t) nullable) same_nullable
+
+  same_tables : (rows : Relation) (number : ℕ) (design : List KeyedScheme)
+      → tables_from s [] rows number design ≡ tables_from t [] rows number design
   same_tables rows number [] = refl
-  same_tables rows number (scheme ∷ plan) =
-      ap₂ (λ (names : List (List ℕ)) (nullable : List Bool).
-      made number (members_from scheme 0 names) nullable (ordered_projection scheme rows)
-      ∷ tables_from s [] rows (number + 1) plan) same_names (same_flags scheme)
-      ∙ ap (λ (tables : List TableValue).
-      made number (members_from scheme 0 (names_of t)) (flags (width_of t) (nullable_of t) scheme)
-      (ordered_projection scheme rows) ∷ tables)
-      (same_tables rows (number + 1) plan)
+  same_tables rows number (table ∷ design) =
+      ap₂ (λ (one : TableValue) (others : List TableValue). one ∷ others) (same_table rows number table)
+      (same_tables rows (number + 1) design)
+
+  keyed_moved : (plan : List Attributes) (design : List KeyedScheme) → IsKeyedDesign s plan design → IsKeyedDesign t plan design
+  keyed_moved plan design keyed = record {
+    order = moved (λ n ds. IsInDesignOrder n ds plan (schemes_of_tables design)) keyed.order;
+    keys = moved_all (λ n ds nullable. All (λ (table : KeyedScheme).
+        IsPrimaryKey n ds nullable (attributes table.scheme) (attributes table.key)) design) keyed.keys;
+  }
+
+  -- so no row misses a value
+  all_tidy : (design : List KeyedScheme) (rows : Relation) → All (IsTidyFor (empty_values (nullable_of s)) rows) design
+  all_tidy design rows k d l row row_in incomplete =
+      absurd (true≢false (sym (disjoint_misses_none (nullable_of s) (empty_values (nullable_of s)) (attributes (get_or design k d).key) row
+      (empty_is_missing (nullable_of s)) (λ a m. (s.typed.bare first.bare).none_nullable a)) ∙ incomplete))
+
+  tidy_moved : (plan : List Attributes) (rows : Relation) → AreTidy s plan rows → AreTidy t plan rows
+  tidy_moved plan rows (design, keyed, tidy) = (
+    design,
+    keyed_moved plan design keyed,
+    moved_all (λ n ds nullable. All (IsTidyFor (empty_values nullable) rows) design) tidy,
+  )
 
   given_moved : (plan : List Attributes) (rows : Relation) (response : ResponseValue)
       → GivesTables s [] plan rows response → GivesTables t [] plan rows response
   given_moved plan rows response (tables, are, responds) = (
     tables,
     record {
-      ordered = are.ordered;
-      order = moved (λ n ds. IsInDesignOrder n ds plan are.ordered) are.order;
-      projections = are.projections ∙ same_tables rows 0 are.ordered;
-      joins = moved (λ n ds. JoinIs n are.ordered tables rows) are.joins;
+      design = are.design;
+      keyed = keyed_moved plan are.design are.keyed;
+      projections = are.projections ∙ same_tables rows 0 are.design;
+      reads_back = moved_all (λ n ds nullable. CanBeReadBack n ds nullable are.design → ReadsBack n nullable are.design tables rows) are.reads_back;
+      joins = moved_all (λ n ds nullable. All (λ (table : KeyedScheme). is_optional nullable table ≡ false) are.design
+          → JoinIs n (schemes_of_tables are.design) tables rows) are.joins;
     },
     subst (λ (naming : Naming). RespondsWithTables (migrated_text naming rows tables) tables response)
         (first.bare ∙ sym second.bare) responds,
@@ -123,10 +156,12 @@ module _ (s t : Schema) (first : IsSampleSchema s) (second : IsSampleSchema t) w
       → MigratesRows s [] plan (sample_relation persons) response
       → MigratesRows t [] plan (sample_relation persons) response
   rows_moved persons short plan response (inl stops) = absurd (stops.0 (legal persons short))
-  rows_moved persons short plan response (inr (is_legal, given)) =
+  rows_moved persons short plan response (inr (is_legal, inl (design, keyed, (lost, found)))) =
+      absurd (lost (all_tidy design (sample_relation persons)))
+  rows_moved persons short plan response (inr (is_legal, inr (tidy, given))) =
       inr (
         moved (λ n ds. IsLegal n ds (sample_relation persons)) is_legal,
-        given_moved plan (sample_relation persons) response given,
+        inr (tidy_moved plan (sample_relation persons) tidy, given_moved plan (sample_relation persons) response given),
       )
 
   answer_moved : (persons : ℕ) → persons < 2 ^ 64 → (response : ResponseValue)

@@ -1,89 +1,29 @@
 -- Two designs that are the same table by table have one script.
-use Rattle.std.proofs.Common.{◌≡◌, ℕ, zero, suc, Bool, true, false, not, List, [], ◌∷◌, ◌++◌, length, get_or, map, refl, sym, ap, subst, ◌∙◌}
-use mathlib.Core.Path.{fun_ext}
+use Rattle.std.proofs.Common.{◌≡◌, ℕ, zero, suc, Bool, true, false, not, List, [], ◌∷◌, ◌++◌, length, map, refl, sym, ap, subst, ◌∙◌}
 use Rattle.std.proofs.lemmas.List.{reverse-append}
-use Rattle.std.specs.Prelude.{if◌then◌else◌, reverse, is_some, codes}
+use Rattle.std.specs.Prelude.{if◌then◌else◌, reverse, codes}
 use Rattle.std.specs.List.{AllZip}
 use Rattle.attr_sets.specs.Attributes.{Attributes, none, union, intersection}
 use Rattle.attr_sets.specs.Sets.{attributes, is_disjoint}
 use Rattle.dep_model.specs.JoinOrders.{put_first, of_first, joined_next}
 use Rattle.schema_model.specs.Schemas.{Schema}
 use Rattle.schema_model.specs.Schemas.{universe_of}
-use Rattle.ddl_text.specs.Ddl.{is_empty}
-use Rattle.ddl_text.specs.Designs.{known_keys}
+use Rattle.ddl_text.specs.Ddl.{tables_made}
 use Rattle.ddl_text.specs.declared.table.TableDesign.{TableDesign}
-use Rattle.sql_syntax.specs.Names.{quoted_name}
-use Rattle.sql_syntax.specs.Syntax.{Link, Query, joined}
-use Rattle.sql_syntax.specs.Statements.{Element, unique_key, Statement, remark, begin, commit, create_table, create_from, create_view, script_text}
+use Rattle.sql_syntax.specs.Names.{attribute_names, quoted_name}
+use Rattle.sql_syntax.specs.Syntax.{ColumnName, Link, Query, joined}
+use Rattle.sql_syntax.specs.Statements.{Statement, remark, begin, commit, create_from, create_view, script_text}
 use Rattle.sql_migrate.specs.declared.joining.JoinedTable.{JoinedTable}
-use Rattle.sql_migrate.specs.Moving.{attribute_names}
-use Rattle.sql_migrate.specs.Created.{columns_made, stated_keys, left_out_keys, key_made, keys_made, reference_made, references_made, elements_made, left_out_words, said_of, remarks_made, table_made, tables_made}
-use Rattle.sql_migrate.specs.Script.{copy_name, view_name, copy_query, fill, link, links, join_of, joined_tables, scheme_of_joined, view_order, view_query, testing}
+use Rattle.sql_migrate.specs.Script.{copy_name, view_name, copy_query, fill, fill_query, filled_tables, link, links, look_up, looked_up_tables, join_of, joined_tables, scheme_of_joined, view_order, view_query, testing}
 use Rattle.sql_scripts.specs.Migrating.{migrate_text}
+use Rattle.plan_laws.proofs.DesignTexts.{tables_same}
+use Rattle.plan_laws.proofs.LookUpTexts.{filled_same, look_ups_same}
 use Rattle.plan_laws.specs.SameDesigns.{IsSameTable, AreSameTables}
-
--- ---- tables that are made
-reference_same : (s : Schema) (t u : TableDesign) → IsSameTable t u → reference_made s t ≡ reference_made s u
-reference_same s t u same = simp (same.name, same.key)
-
-found_same : (s : Schema) (one other : List TableDesign) → AreSameTables one other → (t u : TableDesign) → IsSameTable t u → (j : ℕ)
-    → reference_made s (get_or one j t) ≡ reference_made s (get_or other j u)
-found_same s [] [] same t u alike j = reference_same s t u alike
-found_same s [] (v ∷ vs) same t u alike j = absurd same
-found_same s (v ∷ vs) [] same t u alike j = absurd same
-found_same s (v ∷ vs) (w ∷ ws) same t u alike zero = reference_same s v w same.0
-found_same s (v ∷ vs) (w ∷ ws) same t u alike (suc j) = found_same s vs ws same.1 t u alike j
-
-references_same : (s : Schema) (one other : List TableDesign) → AreSameTables one other → (t u : TableDesign) → IsSameTable t u
-    → references_made s one t ≡ references_made s other u
-references_same s one other same t u alike =
-    ap (λ (made : ℕ → Element). map made t.refs.items) (fun_ext (found_same s one other same t u alike))
-    ∙ ap (λ (refs : List ℕ). map (λ j. reference_made s (get_or other j u)) refs) alike.references
-
-keys_same : (s : Schema) (t u : TableDesign) → IsSameTable t u → keys_made s t ≡ keys_made s u
-keys_same s t u alike =
-    ap (λ (x : Attributes). key_made s x ++ map (λ key. unique_key (attribute_names s key)) (stated_keys s (known_keys t.other_keys))) alike.key
-    ∙ ap (λ (keys : List Attributes). key_made s (attributes u.key) ++ map (λ key. unique_key (attribute_names s key)) (stated_keys s keys)) alike.other_keys
-
-said_same : (s : Schema) (t u : TableDesign) → IsSameTable t u → said_of s t ≡ said_of s u
-said_same s t u alike =
-    ap (λ (key : Attributes). said key (is_some t.other_keys) (known_keys t.other_keys)) alike.key
-    ∙ ap (λ (known : Bool). said (attributes u.key) known (known_keys t.other_keys)) alike.are_known
-    ∙ ap (λ (keys : List Attributes). said (attributes u.key) (is_some u.other_keys) keys) alike.other_keys
-  where
-    said : Attributes → Bool → List Attributes → List (List ℕ)
-    said key known keys =
-        if is_empty key then codes "at most one row" ∷ []
-        else if known then map (left_out_words s) (left_out_keys s keys) else codes "further keys are not looked for" ∷ []
-
-elements_same : (s : Schema) (one other : List TableDesign) → AreSameTables one other → (t u : TableDesign) → IsSameTable t u
-    → elements_made s one t ≡ elements_made s other u
-elements_same s one other same t u alike =
-    ap (λ (x : Attributes). columns_made s x ++ keys_made s t ++ references_made s one t) alike.columns
-    ∙ ap (λ (keys : List Element). columns_made s (attributes u.scheme) ++ keys ++ references_made s one t) (keys_same s t u alike)
-    ∙ ap (λ (refs : List Element). columns_made s (attributes u.scheme) ++ keys_made s u ++ refs) (references_same s one other same t u alike)
-
-table_same : (s : Schema) (one other : List TableDesign) → AreSameTables one other → (t u : TableDesign) → IsSameTable t u
-    → table_made s one t ≡ table_made s other u
-table_same s one other same t u alike =
-    ap (λ (words : List (List ℕ)). map remark words ++ create_table (quoted_name t.name) (elements_made s one t) ∷ []) (said_same s t u alike)
-    ∙ ap (λ (name : List ℕ). remarks_made s u ++ create_table (quoted_name name) (elements_made s one t) ∷ []) alike.name
-    ∙ ap (λ (elements : List Element). remarks_made s u ++ create_table (quoted_name u.name) elements ∷ [])
-    (elements_same s one other same t u alike)
-
-tables_same : (s : Schema) (all every one other : List TableDesign) → AreSameTables all every → AreSameTables one other
-    → tables_made s all one ≡ tables_made s every other
-tables_same s all every [] [] whole same = refl
-tables_same s all every [] (u ∷ us) whole same = absurd same
-tables_same s all every (t ∷ ts) [] whole same = absurd same
-tables_same s all every (t ∷ ts) (u ∷ us) whole same =
-    ap (λ (made : List Statement). made ++ tables_made s all ts) (table_same s all every whole t u same.0)
-    ∙ ap (λ (rest : List Statement). table_made s every u ++ rest) (tables_same s all every ts us whole same.1)
 
 -- ---- what fills them
 fill_same : (s : Schema) (t u : TableDesign) → IsSameTable t u → fill s t ≡ fill s u
-unfolding fill
-fill_same s t u same = simp (same.name, same.columns)
+unfolding fill fill_query
+fill_same s t u same = simp (same.name, same.columns, same.key)
 
 fills_same : (s : Schema) (one other : List TableDesign) → AreSameTables one other → map (fill s) one ≡ map (fill s) other
 fills_same s [] [] same = refl
@@ -183,20 +123,29 @@ links_same s seen (t ∷ ts) (u ∷ us) same =
     linked_by name x =
         link s (intersection seen x) (record { name = name; scheme = t.scheme }) ∷ links s (union seen x) us
 
-join_same : (s : Schema) (one other : List JoinedTable) → AreAlike one other → join_of s one ≡ join_of s other
-join_same s [] [] same = refl
-join_same s [] (u ∷ us) same = absurd same
-join_same s (t ∷ ts) [] same = absurd same
-join_same s (t ∷ ts) (u ∷ us) same =
-    ap (λ (more : List Link). joined (attribute_names s (universe_of s)) (quoted_name t.name) more) (links_same s (attributes t.scheme) ts us same.1)
-    ∙ ap (λ (x : Attributes). joined (attribute_names s (universe_of s)) (quoted_name t.name) (links s x us)) same.0.columns
-    ∙ ap (λ (name : List ℕ). joined (attribute_names s (universe_of s)) (quoted_name name) (links s (attributes u.scheme) us)) same.0.name
+join_same : (s : Schema) (one other : List JoinedTable) (ts us : List TableDesign) → AreAlike one other
+    → map (look_up s) ts ≡ map (look_up s) us → join_of s one ts ≡ join_of s other us
+join_same s [] [] ts us same looked_up =
+    ap (λ (links : List Link). joined (attribute_names s (universe_of s)) [] links) looked_up
+join_same s [] (v ∷ vs) ts us same looked_up = absurd same
+join_same s (t ∷ ts') [] ts us same looked_up = absurd same
+join_same s (t ∷ more) (u ∷ beyond) ts us same looked_up =
+    ap (λ (front : List Link). joined all (quoted_name t.name) (front ++ map (look_up s) ts)) (links_same s (attributes t.scheme) more beyond same.1)
+    ∙ ap (λ (last : List Link). joined all (quoted_name t.name) (links s (attributes t.scheme) beyond ++ last)) looked_up
+    ∙ ap (λ (x : Attributes). joined all (quoted_name t.name) (links s x beyond ++ map (look_up s) us)) same.0.columns
+    ∙ ap (λ (name : List ℕ). joined all (quoted_name name) (links s (attributes u.scheme) beyond ++ map (look_up s) us)) same.0.name
+  where
+    all : List ColumnName
+    all = attribute_names s (universe_of s)
 
 view_same : (s : Schema) (one other : List TableDesign) → AreSameTables one other → view_query s one ≡ view_query s other
 unfolding view_query
 view_same s one other same =
-    join_same s (view_order (joined_tables one)) (view_order (joined_tables other))
-    (alike_order (joined_tables one) (joined_tables other) (alike_joined one other same))
+    join_same s (view_order (joined_tables (filled_tables s one))) (view_order (joined_tables (filled_tables s other)))
+    (looked_up_tables s one) (looked_up_tables s other)
+    (alike_order (joined_tables (filled_tables s one)) (joined_tables (filled_tables s other))
+    (alike_joined (filled_tables s one) (filled_tables s other) (filled_same s one other same)))
+    (look_ups_same s one other same)
 
 -- ---- the script
 pub script_same : (s : Schema) (table : List ℕ) (one other : List TableDesign) → AreSameTables one other

@@ -3,6 +3,8 @@ use Rattle.std.specs.Prelude.{◌≡◌, ℕ, List, length, slice_get, Some, Con
 use Rattle.attr_sets.specs.Attributes.{Attributes}
 use Rattle.attr_sets.specs.Sets.{attributes}
 use Rattle.csv_migrate.specs.Migration.{column_names}
+use Rattle.optional_tables.specs.LookUps.{empty_values}
+use Rattle.schema_model.specs.Schemas.{nullable_of}
 use Rattle.schema_model.specs.Schemas.{Schema}
 use Rattle.ddl_text.specs.Designs.{known_keys}
 use Rattle.ddl_text.specs.KeysAndReferences.{KeyHolds, ReferenceHolds}
@@ -34,11 +36,12 @@ OtherKeysHoldIn designs tables =
     → slice_get tables k ≡ Some table → (key : Attributes) → Contains (known_keys design.other_keys) key
     → KeyHolds (attributes design.scheme) table.rows key
 
--- each reference of a designed table holds between the table and the one that it refers to
-abbrev pub ReferencesHoldIn : List TableDesign → List TableValue → Type 0
-ReferencesHoldIn designs tables =
+-- each reference of a designed table holds between the table and the one that it refers to, for the rows that miss no
+-- value of it
+abbrev pub ReferencesHoldIn : Schema → List TableDesign → List TableValue → Type 0
+ReferencesHoldIn schema designs tables =
     (k j : ℕ) (design other : TableDesign) (table other_table : TableValue)
     → slice_get designs k ≡ Some design → slice_get tables k ≡ Some table
     → Contains design.refs.items j → slice_get designs j ≡ Some other → slice_get tables j ≡ Some other_table
-    → ReferenceHolds (attributes design.scheme) table.rows (attributes other.scheme) other_table.rows
-    (attributes other.key)
+    → ReferenceHolds (empty_values (nullable_of schema)) (attributes design.scheme) table.rows (attributes other.scheme)
+    other_table.rows (attributes other.key)

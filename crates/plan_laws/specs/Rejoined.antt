@@ -1,9 +1,11 @@
 -- The tables of a migration joined again: for the laws of `rejoined`. `Desk` does not cite it.
-use Rattle.std.specs.Prelude.{◌≡◌, ◌⊎◌, ◌↔◌, ℕ, List, Contains}
+use Rattle.std.specs.Prelude.{◌≡◌, ◌⊎◌, ◌↔◌, ℕ, false, List, All, Contains}
 use Rattle.attr_sets.specs.Attributes.{Attributes}
 use Rattle.csv_migrate.specs.Migration.{relations_of}
 use Rattle.csv_text.specs.Rows.{rows_text}
-use Rattle.schema_model.specs.Schemas.{names_of, width_of, theory_of}
+use Rattle.optional_tables.specs.Homes.{is_optional}
+use Rattle.optional_tables.specs.declared.keyed.KeyedScheme.{KeyedScheme}
+use Rattle.schema_model.specs.Schemas.{names_of, nullable_of, width_of, theory_of}
 use Rattle.dep_model.specs.Tuples.{Relation, SameRelation}
 use Rattle.schema_model.specs.Schemas.{Schema}
 use Rattle.design_order.specs.Order.{IsInDesignOrder}
@@ -15,6 +17,13 @@ use Rattle.table_join.specs.declared.refusal.JoinRefusal.TheVariants.{TooManyRow
 use Rattle.desk_responses.specs.declared.status.Status.TheVariants.{Yes, Refused}
 use Rattle.desk_responses.specs.ResponseValues.{ResponseValue, Says}
 use Rattle.desk_tables.specs.Rejoining.{JoinsTables, join_refusal_text}
+use Rattle.desk_tables.specs.Tidiness.{IsKeyedDesign}
+
+-- no table of a plan is optional
+abbrev pub HasNoOptional : Schema → List Attributes → Type 0
+HasNoOptional schema plan =
+    (design : List KeyedScheme) × IsKeyedDesign schema plan design
+    × All (λ table. is_optional (nullable_of schema) table ≡ false) design
 
 -- parts have the rows of the tables of a migration, over the schemes of its plan in the order of a design
 pub record HaveRowsOf (schema : Schema) (plan : List Attributes) (tables : List TableValue)

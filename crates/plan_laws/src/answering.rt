@@ -25,96 +25,50 @@ ghost use Rattle.desk_tables.specs.Overwriting.{MigratesHere, MigratesPlanHere};
 ghost use Rattle.desk_tables.specs.OwnFolders.{HasOneLook, Looks, MigratesInto, MigratesPlanInto};
 ghost use Rattle.desk_tables.specs.Rejoining.{JoinsTables};
 
-/// `split` has one answer to a schema, in each form and at any width.
-pub fn one_answer_of_split()
-    ensures form { (schema : Schema) (form : Form) → AllowsOne (Splits schema form) }
-    ensures wide { (schema : Schema) → AllowsOne (SplitsWide schema) }
-{}
-
-/// `form` has one answer to a schema, and to a schema and a plan.
-pub fn one_answer_of_form()
-    ensures all { (schema : Schema) → AllowsOne (ListsFormOfAll schema) }
-    ensures plan { (schema : Schema) (plan : List Attributes) → IsPlan (width_of schema) plan
+/// What is asked of a schema, and of a schema and a plan, has one answer: `split`, `form`, `synthesize fewest`, the
+/// reasons of plans, `ddl` and `draw`.
+pub fn plans_have_one_answer()
+    ensures split { (schema : Schema) (form : Form) → AllowsOne (Splits schema form) }
+    ensures split_wide { (schema : Schema) → AllowsOne (SplitsWide schema) }
+    ensures form { (schema : Schema) → AllowsOne (ListsFormOfAll schema) }
+    ensures form_of_plan { (schema : Schema) (plan : List Attributes) → IsPlan (width_of schema) plan
         → AllowsOne (ListsFormsOfPlan schema plan) }
-{}
-
-/// `synthesize fewest` has one answer to a schema.
-pub fn one_answer_of_synthesize_fewest()
-    ensures law { (schema : Schema) → AllowsOne (SynthesizesFewest schema) }
-{}
-
-/// `explain synthesize`, `explain synthesize fewest` and `explain split` have one answer to a schema, and to
-/// a schema and a form.
-pub fn one_answer_of_plan_reasons()
-    ensures synthesis { (schema : Schema) → AllowsOne (ExplainsSynthesis schema) }
-    ensures fewest { (schema : Schema) → AllowsOne (ExplainsFewest schema) }
-    ensures split { (schema : Schema) (form : Form) → AllowsOne (ExplainsSplit schema form) }
-{}
-
-/// `ddl` has one answer to a schema and a form, and to a schema and a plan.
-pub fn one_answer_of_ddl()
-    ensures form { (schema : Schema) (form : Form) → AllowsOne (WritesForm schema form) }
-    ensures plan { (schema : Schema) (names : GivenNames) (plan : List Attributes)
+    ensures fewest { (schema : Schema) → AllowsOne (SynthesizesFewest schema) }
+    ensures explained_synthesis { (schema : Schema) → AllowsOne (ExplainsSynthesis schema) }
+    ensures explained_fewest { (schema : Schema) → AllowsOne (ExplainsFewest schema) }
+    ensures explained_split { (schema : Schema) (form : Form) → AllowsOne (ExplainsSplit schema form) }
+    ensures ddl { (schema : Schema) (form : Form) → AllowsOne (WritesForm schema form) }
+    ensures ddl_of_plan { (schema : Schema) (names : GivenNames) (plan : List Attributes)
         → AllowsOne (WritesPlan schema names plan) }
-{}
-
-/// `draw` has one answer to a schema and a form, and to a schema and a plan.
-pub fn one_answer_of_draw()
-    ensures form { (schema : Schema) (form : Form) → AllowsOne (DrawsForm schema form) }
-    ensures plan { (schema : Schema) (names : GivenNames) (plan : List Attributes)
+    ensures draw { (schema : Schema) (form : Form) → AllowsOne (DrawsForm schema form) }
+    ensures draw_of_plan { (schema : Schema) (names : GivenNames) (plan : List Attributes)
         → AllowsOne (DrawsSchemes schema names plan) }
 {}
 
-/// `sql check` has one answer to a schema and a name.
-pub fn one_answer_of_sql_check()
-    ensures law { (schema : Schema) (name : List ℕ) → AllowsOne (ScriptsCheck schema name) }
-{}
-
-/// `sql measure` has one answer to a schema and a name.
-pub fn one_answer_of_sql_measure()
-    ensures law { (schema : Schema) (name : List ℕ) → AllowsOne (ScriptsMeasure schema name) }
-{}
-
-/// `sql migrate` has one answer to a schema, a form or a plan, and a name.
-pub fn one_answer_of_sql_migrate()
-    ensures form { (schema : Schema) (form : Form) (name : List ℕ) → AllowsOne (ScriptsMigration schema form name) }
-    ensures plan { (schema : Schema) (names : GivenNames) (plan : List Attributes) (name : List ℕ)
+/// `sql check` and `sql measure` have one answer to a schema and the name of a table, and `sql migrate` to these and a
+/// form or a plan.
+pub fn scripts_have_one_answer()
+    ensures check { (schema : Schema) (name : List ℕ) → AllowsOne (ScriptsCheck schema name) }
+    ensures measure { (schema : Schema) (name : List ℕ) → AllowsOne (ScriptsMeasure schema name) }
+    ensures migrate { (schema : Schema) (form : Form) (name : List ℕ) → AllowsOne (ScriptsMigration schema form name) }
+    ensures migrate_by_plan { (schema : Schema) (names : GivenNames) (plan : List Attributes) (name : List ℕ)
         → AllowsOne (ScriptsMigrationByPlan schema names plan name) }
 {}
 
-/// `check rows` has one answer to a schema and rows.
-pub fn one_answer_of_check_rows()
-    ensures law { (schema : Schema) (rows : Relation) → AllowsOne (JudgesRows schema rows) }
-{}
-
-/// `migrate` has one answer, text and tables, to a schema, a plan and rows.
-pub fn one_answer_of_migrate()
-    ensures law { (schema : Schema) (names : GivenNames) (plan : List Attributes) (rows : Relation)
+/// `check rows`, `migrate` (where no file that is read is written over, and into a folder of its own too, where a look at a
+/// name has one answer), `sample` and `rejoin` have one answer, text and tables, to the values that they are asked about.
+pub fn tables_have_one_answer()
+    ensures check_rows { (schema : Schema) (rows : Relation) → AllowsOne (JudgesRows schema rows) }
+    ensures migrate { (schema : Schema) (names : GivenNames) (plan : List Attributes) (rows : Relation)
         → AllowsOne (MigratesPlan schema names plan rows) }
-{}
-
-/// The same where no file that is read may be written over.
-pub fn one_answer_of_migrate_here()
-    ensures form { (schema : Schema) (form : Form) (files : List (List ℕ)) (rows : Relation)
+    ensures here { (schema : Schema) (form : Form) (files : List (List ℕ)) (rows : Relation)
         → AllowsOne (MigratesHere schema form files rows) }
-    ensures plan { (schema : Schema) (names : GivenNames) (plan : List Attributes) (files : List (List ℕ))
+    ensures here_by_plan { (schema : Schema) (names : GivenNames) (plan : List Attributes) (files : List (List ℕ))
         (rows : Relation) → AllowsOne (MigratesPlanHere schema names plan files rows) }
-{}
-
-/// The same into a folder of its own, where a look at a name has one answer.
-pub fn one_answer_of_migrate_into()
-    ensures form { (looks : Looks) (schema : Schema) (form : Form) (name : List ℕ) (rows : Relation)
+    ensures into { (looks : Looks) (schema : Schema) (form : Form) (name : List ℕ) (rows : Relation)
         → HasOneLook looks → AllowsOne (MigratesInto looks schema form name rows) }
-    ensures plan { (looks : Looks) (schema : Schema) (names : GivenNames) (plan : List Attributes) (name : List ℕ)
+    ensures into_by_plan { (looks : Looks) (schema : Schema) (names : GivenNames) (plan : List Attributes) (name : List ℕ)
         (rows : Relation) → HasOneLook looks → AllowsOne (MigratesPlanInto looks schema names plan name rows) }
-{}
-
-/// `sample` has one answer, text and tables, to a number of persons.
-pub fn one_answer_of_sample()
-    ensures law { (persons : ℕ) → persons ≤ MOST_PERSONS → AllowsOne (Samples persons) }
-{}
-
-/// `rejoin` has one answer to a schema and tables.
-pub fn one_answer_of_rejoin()
-    ensures law { (schema : Schema) (tables : List PartialRelation) → AllowsOne (JoinsTables schema tables) }
+    ensures sample { (persons : ℕ) → persons ≤ MOST_PERSONS → AllowsOne (Samples persons) }
+    ensures rejoin { (schema : Schema) (tables : List PartialRelation) → AllowsOne (JoinsTables schema tables) }
 {}

@@ -40,7 +40,7 @@ pub fn migrated_tables_obey_the_design()
     ensures references { (schema : Schema) (names : GivenNames) (plan : List AttrSet) (designs : List TableDesign)
         (rows : Relation) (tables : List TableValue) → IsSoundDesign schema names plan designs
         → AreTablesOf schema names (schemes_of plan) rows tables → LegalFor schema rows
-        → ReferencesHoldIn designs tables }
+        → ReferencesHoldIn schema designs tables }
 {}
 
 /// The tables that `migrate` makes of a normal form are those that `ddl` creates for that form.

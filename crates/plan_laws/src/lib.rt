@@ -16,13 +16,7 @@ mod passing;
 mod rejoined;
 mod unique;
 
-pub use answering::{
-    one_answer_of_check_rows, one_answer_of_ddl, one_answer_of_draw, one_answer_of_form,
-    one_answer_of_migrate, one_answer_of_migrate_here, one_answer_of_migrate_into,
-    one_answer_of_plan_reasons, one_answer_of_rejoin, one_answer_of_sample, one_answer_of_split,
-    one_answer_of_sql_check, one_answer_of_sql_measure, one_answer_of_sql_migrate,
-    one_answer_of_synthesize_fewest,
-};
+pub use answering::{plans_have_one_answer, scripts_have_one_answer, tables_have_one_answer};
 pub use designed::{
     given_names_stay_apart, migrated_tables_are_designed, migrated_tables_have_different_names,
     migrated_tables_obey_the_design, tables_of_a_form_are_designed,
@@ -33,9 +27,7 @@ pub use passing::{
     third_form_is_second, wide_splits_pass,
 };
 pub use rejoined::{
-    migrated_tables_are_rejoined, tables_are_rejoined_in_any_order, view_joins_from_the_last,
+    migrated_tables_are_rejoined, tables_are_looked_up, tables_are_rejoined_in_any_order,
+    view_joins_from_the_last,
 };
-pub use unique::{
-    one_answer_of_check_form, one_answer_of_check_join, one_answer_of_check_keeps,
-    one_answer_of_synthesize, one_design_of_a_plan, one_plan_in_form, one_split_plan,
-};
+pub use unique::{checks_have_one_answer, one_design_of_a_plan, one_plan_in_form, one_split_plan};

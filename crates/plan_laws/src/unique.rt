@@ -43,28 +43,16 @@ pub fn one_design_of_a_plan()
         → IsSoundDesign schema names others other → AreSameTables one other }
 {}
 
-/// `synthesize` has one answer to a schema.
-pub fn one_answer_of_synthesize()
-    ensures law { (schema : Schema) (one other : ResponseValue) → Synthesizes schema one
+/// `synthesize` has one answer to a schema, and `check form`, `check join` and `check keeps` have one to a schema and a plan;
+/// so the losses of a plan are one list, each with one pair of tuples.
+pub fn checks_have_one_answer()
+    ensures synthesize { (schema : Schema) (one other : ResponseValue) → Synthesizes schema one
         → Synthesizes schema other → one ≡ other }
-{}
-
-/// `check form` has one answer to a schema, a form and a plan.
-pub fn one_answer_of_check_form()
-    ensures law { (schema : Schema) (form : TestedForm) (plan : List Attributes) (one other : ResponseValue)
+    ensures form { (schema : Schema) (form : TestedForm) (plan : List Attributes) (one other : ResponseValue)
         → IsPlan (width_of schema) plan → JudgesForm schema form plan one → JudgesForm schema form plan other
         → one ≡ other }
-{}
-
-/// `check join` has one answer to a schema and a plan.
-pub fn one_answer_of_check_join()
-    ensures law { (schema : Schema) (plan : List Attributes) (one other : ResponseValue)
+    ensures join { (schema : Schema) (plan : List Attributes) (one other : ResponseValue)
         → JudgesJoin schema plan one → JudgesJoin schema plan other → one ≡ other }
-{}
-
-/// `check keeps` has one answer to a schema and a plan; so the losses of a plan are one list, each with
-/// one pair of tuples.
-pub fn one_answer_of_check_keeps()
-    ensures law { (schema : Schema) (plan : List Attributes) (one other : ResponseValue)
+    ensures keeps { (schema : Schema) (plan : List Attributes) (one other : ResponseValue)
         → JudgesKeeping schema plan one → JudgesKeeping schema plan other → one ≡ other }
 {}

@@ -23,11 +23,12 @@ use Rattle.missing_values.specs.declared.refusal.MissingRefusal.TheVariants.{InK
 use Rattle.sample_rows.specs.Sample.{sample_relation}
 use Rattle.sample_rows.proofs.SchemaLemmas.{names_bare}
 use Rattle.sql_scripts.specs.Naming.{is_table_name, last_name, met_name}
+use Rattle.table_join.specs.declared.refusal.JoinRefusal.{JoinRefusal}
 use Rattle.table_join.specs.RefusalTexts.{join_reason_text, join_refusal_number}
 use Rattle.table_join.specs.Tables.{PartialRelation}
 use Rattle.table_names.specs.TableNames.{GivenNames, is_given}
 use Rattle.desk_designs.specs.Decompositions.{FormStops, IsPlanInForm, IsSplitInForm, ShowsPlan, SplitStops, Splits, SplitsWide, WithPlanInForm}
-use Rattle.desk_designs.specs.Designs.{AreNeverMissing, MissingStops, WithoutMissing, WritesForm, WritesPlan, WritesSchemes, WritesTables}
+use Rattle.desk_designs.specs.Designs.{AreReadable, MissingStops, WithoutMissing, WritesForm, WritesPlan, WritesSchemes, WritesTables}
 use Rattle.desk_designs.specs.Drawings.{DrawsForm, DrawsSchemes, DrawsTables}
 use Rattle.desk_designs.specs.Joins.{IsShownLossless, JudgesJoin, LossStops, WithoutLoss, lossless_text}
 use Rattle.desk_designs.specs.Keeping.{JudgesKeeping}
@@ -40,10 +41,11 @@ use Rattle.desk_tables.specs.Legality.{JudgesRows, OffenceStops, WithLegal, lega
 use Rattle.desk_tables.specs.Migrations.{GivesTables, MigratesPlan, MigratesRows, Samples}
 use Rattle.desk_tables.specs.Overwriting.{IsTableFile, KeepsFiles, MigratesHere, MigratesPlanHere, OverStops, written_over_text}
 use Rattle.desk_tables.specs.OwnFolders.{FolderStops, InFolder, Looks, MigratesInto, MigratesPlanInto, MigratesRowsInto, MigratesSchemesInto, not_empty_text}
-use Rattle.desk_tables.specs.Rejoining.{JoinsTables}
+use Rattle.desk_tables.specs.Rejoining.{JoinsTables, join_refusal_text}
+use Rattle.desk_tables.specs.Tidiness.{AreTidy, UntidyStops, WithTidy}
 use Rattle.desk_tables.specs.declared.rejoining.TheConstants.{MOST_JOINED_ROWS}
 use Rattle.desk_responses.specs.ResponseValues.{Allowed, ResponseValue, Says, Unless, With}
-use Rattle.desk_responses.specs.declared.status.Status.TheVariants.{Yes}
+use Rattle.desk_responses.specs.declared.status.Status.TheVariants.{Refused, Yes}
 use Rattle.refusal_laws.specs.Refusals.{IsRefusal}
 use Rattle.refusal_laws.proofs.PlainTexts.{at_position, join_reason_plain, names_plain, numbered_plain, plain_three, spelling_plain}
 use Rattle.refusal_laws.proofs.QuestionRefusals.{too_wide}
@@ -144,7 +146,7 @@ module _ (names : List (List ℕ)) (s : Schema) (are_names : All IsName (names_o
 
     after_missing : (rest : Allowed) → RefusesSo names rest → RefusesSo names (WithoutMissing s given schemes rest)
     after_missing rest later =
-        unless_refuses names (MissingStops s given schemes) (AreNeverMissing s given schemes) rest missing_stops later
+        unless_refuses names (MissingStops s given schemes) (AreReadable s given schemes) rest missing_stops later
 
   -- where no names are given
   after_unnamed : (schemes : List Attributes) (rest : Allowed) → RefusesSo names rest → RefusesSo names (WithoutMissing s [] schemes rest)
@@ -241,11 +243,17 @@ module _ (names : List (List ℕ)) (s : Schema) (are_names : All IsName (names_o
   pub rows_refuse : (rows : Relation) → RefusesSo names (JudgesRows s rows)
   rows_refuse rows = after_legal rows (Says Yes legal_text) (says_yes names legal_text)
 
+  untidy_stops : (plan : List Attributes) (rows : Relation) → RefusesSo names (UntidyStops s plan rows)
+  untidy_stops plan rows response (design, keyed, (lost, (found, are, said))) refused = says_no names _ response said refused
+
   tables_given : (given : GivenNames) (plan : List Attributes) (rows : Relation) → RefusesSo names (GivesTables s given plan rows)
   tables_given given plan rows response (tables, are, said) refused = gives_tables names _ tables response said refused
 
   rows_migrated : (given : GivenNames) (plan : List Attributes) (rows : Relation) → RefusesSo names (MigratesRows s given plan rows)
-  rows_migrated given plan rows = after_legal rows (GivesTables s given plan rows) (tables_given given plan rows)
+  rows_migrated given plan rows =
+      after_legal rows (WithTidy s plan rows (GivesTables s given plan rows))
+      (unless_refuses names (UntidyStops s plan rows) (AreTidy s plan rows) (GivesTables s given plan rows) (untidy_stops plan rows)
+      (tables_given given plan rows))
 
   plan_migrated : (given : GivenNames) (plan : List Attributes) (rows : Relation) → RefusesSo names (MigratesPlan s given plan rows)
   plan_migrated given plan rows = after_loss plan (MigratesRows s given plan rows) (rows_migrated given plan rows)
@@ -321,14 +329,19 @@ module _ (names : List (List ℕ)) (s : Schema) (are_names : All IsName (names_o
       (after_folder looks folder listed (WithoutLoss s plan migrates) (after_loss plan migrates (schemes_into given plan folder rows)))
 
   -- tables joined again
-  pub joined : (tables : List PartialRelation) → RefusesSo names (JoinsTables s tables)
-  joined tables response (inl (rows, is, said)) refused = says_yes names _ response said refused
-  joined tables response (inr (why, refuses, said)) refused =
+  join_refused : (why : JoinRefusal) → RefusesSo names (Says Refused (join_refusal_text (printed_names_of s) why))
+  join_refused why response said refused =
       let number = join_refusal_number why in
       let reason = join_reason_text (printed_names_of s) MOST_JOINED_ROWS why in
       says_plain names (codes "join " ++ decimal number ++ codes ": " ++ reason)
       (plain_both (codes "join " ++ decimal number ++ codes ": ") reason (numbered_plain (codes "join ") number (codes ": ") refl refl)
       (join_reason_plain s are_names MOST_JOINED_ROWS why)) response said refused
+
+  pub joined : (tables : List PartialRelation) → RefusesSo names (JoinsTables s tables)
+  joined tables response (inl (keyed, (counts, have, inl (rows, is, said)))) refused = says_yes names _ response said refused
+  joined tables response (inl (keyed, (counts, have, inr (why, refuses, said)))) refused = join_refused why response said refused
+  joined tables response (inr (none, inl (rows, is, said))) refused = says_yes names _ response said refused
+  joined tables response (inr (none, inr (why, refuses, said))) refused = join_refused why response said refused
 
 -- the tables of the sample, whose schema has bare names
 pub sample_refuses : (names : List (List ℕ)) (persons : ℕ) → RefusesSo names (Samples persons)

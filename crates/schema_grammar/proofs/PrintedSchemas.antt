@@ -1,4 +1,4 @@
--- What is printed of a schema means it.
+-- What is printed of a schema means it, also with comments after its dependencies.
 use Rattle.std.proofs.Common.{◌≡◌, ◌<◌, ◌≤◌, ◌+◌, inl, inr, ℕ, Bool, true, false, IsTrue, All, List, [], ◌∷◌, ◌++◌, length, get_or, Some, refl, sym, ◌∙◌, ap, subst, arith, append_assoc}
 use mathlib.Core.Path.{fun_ext}
 use Rattle.std.specs.Prelude.{codes, map}
@@ -44,17 +44,17 @@ use Rattle.schema_printer.specs.Spelling.{spelling, printed_names_of}
 use Rattle.schema_printer.proofs.PrintLemmas.{integer_is}
 use Rattle.schema_grammar.proofs.PrintedColumns.{IsPrinted, word_run}
 use Rattle.schema_grammar.proofs.PrintedDeclarations.{with_names, declaring_mean, are_runs, runs_spelled, run_names, run_columns, run_lines, with_runs, runs_mean, runs_bytes, with_nullable, nullable_mean, nullable_bytes}
-use Rattle.schema_grammar.proofs.PrintedDependencies.{line_numbers, dependencies_mean, each_dependency}
+use Rattle.schema_grammar.proofs.PrintedDependencies.{AreEnds, AreEnds-none, line_numbers, dependencies_mean, ended_lines, ended_lines-none, each_ended, no_ends}
 use Rattle.schema_grammar.proofs.PrintedLexing.{Apart, name_lexed, blank_lexed}
 use Rattle.schema_grammar.proofs.PrintedTexts.{Bytes, bytes_both, EachBytes, lines_cut}
 use Rattle.schema_grammar.proofs.SpelledWords.{names_bytes, nothing_left}
 
 -- the lines of dependencies, and the empty line after the last line feed
-abbrev last_lines : Naming → List (List ℕ) → List Dependency → List (List ℕ)
-last_lines naming names deps = map (dependency_text (map (spelling naming) names)) deps ++ [] ∷ []
+abbrev last_lines : Naming → List (List ℕ) → List Dependency → List (List ℕ) → List (List ℕ)
+last_lines naming names deps tails = ended_lines (map (spelling naming) names) deps tails ++ [] ∷ []
 
 -- what a text with these lines means
-abbrev MeansText : List (List ℕ) → Declarations → Type 0
+abbrev pub MeansText : List (List ℕ) → Declarations → Type 0
 MeansText lines whole = MeansSchema (lines_text lines) whole
 
 pub each_append : (xs ys : List (List ℕ)) → EachBytes xs → EachBytes ys → EachBytes (xs ++ ys)
@@ -62,13 +62,13 @@ each_append [] ys h g = g
 each_append (x ∷ xs) ys (here, rest) g = (here, each_append xs ys rest g)
 
 -- a printed text is cut into its lines and an empty one
-text_cut : (f : Format) (naming : Naming) (lines names : List (List ℕ)) (deps : List Dependency) → EachBytes lines
-    → AreReadBack f naming names
-    → line_texts (lines_text (lines ++ map (dependency_text (map (spelling naming) names)) deps))
-    ≡ lines ++ last_lines naming names deps
-text_cut f naming lines names deps each are =
-    let more = map (dependency_text (map (spelling naming) names)) deps in
-    lines_cut (lines ++ more) (each_append lines more each (each_dependency f naming names deps are))
+text_cut : (f : Format) (naming : Naming) (lines names : List (List ℕ)) (deps : List Dependency) (tails : List (List ℕ))
+    → EachBytes lines → AreReadBack f naming names → AreEnds deps tails
+    → line_texts (lines_text (lines ++ ended_lines (map (spelling naming) names) deps tails))
+    ≡ lines ++ last_lines naming names deps tails
+text_cut f naming lines names deps tails each are ends =
+    let more = ended_lines (map (spelling naming) names) deps tails in
+    lines_cut (lines ++ more) (each_append lines more each (each_ended f naming names deps tails are ends))
     ∙ append_assoc lines more ([] ∷ [])
 
 -- ---- a text without a version line
@@ -82,18 +82,20 @@ declared naming names columns nullable deps number = record {
   nullable = nullable;
 }
 
-plain_means : (names : List (List ℕ)) (deps : List Dependency) → AreReadBack format.Plain Bare names → 0 < length names
+plain_means : (names : List (List ℕ)) (deps : List Dependency) (tails : List (List ℕ))
+    → AreReadBack format.Plain Bare names → 0 < length names
     → length names ≤ MOST_ATTRIBUTES → All (IsWithin (below (length names))) deps → length deps ≤ MOST_DEPENDENCY_LINES
+    → AreEnds deps tails
     → MeansText ((codes "attributes" ++ words_text (map (spelling Bare) names))
-    ∷ map (dependency_text (map (spelling Bare) names)) deps)
+    ∷ ended_lines (map (spelling Bare) names) deps tails)
     (declared Bare names (map (λ (w : List ℕ). Text) names) none deps 2)
 unfolding line_kind has_version_line is_version
-plain_means names deps are some within_limit within deps_within_limit =
+plain_means names deps tails are some within_limit within deps_within_limit ends =
     let words = words_text (map (spelling Bare) names) in
     let line = codes "attributes" ++ words in
-    let rest = last_lines Bare names deps in
+    let rest = last_lines Bare names deps tails in
     let bytes = bytes_both (codes "attributes") words refl (names_bytes format.Plain Bare names are.each) in
-    let cut = text_cut format.Plain Bare (line ∷ []) names deps (bytes, tt) are in
+    let cut = text_cut format.Plain Bare (line ∷ []) names deps tails (bytes, tt) are ends in
     let apart = elim names as (λ ws. Apart (words_text (map (spelling Bare) ws))) [ [] ↦ tt | w ∷ ws ↦ refl ] in
     let no_version : has_version_line (line ∷ rest) ≡ false =
     rw (name_lexed (mode.numbered Bare) 1 (codes "attributes") words refl apart) refl in
@@ -101,7 +103,7 @@ plain_means names deps are some within_limit within deps_within_limit =
     let here = declaring_mean format.Plain Text 1 (no_declaration Bare) (codes "attributes") names names [] 0 are
     (record { whole = sym (append-nil names); size = refl }) within_limit some
     (word_run format.Plain (codes "attributes") Text names refl refl are.each) in
-    let more = dependencies_mean format.Plain 2 after_names deps are within (omega arith) in
+    let more = dependencies_mean format.Plain 2 after_names deps tails are within (omega arith) ends in
     let of : List (List ℕ) → Type 0 =
     λ ls. IsPlainText ls (declared Bare names (map (λ (w : List ℕ). Text) names) none deps 2) in
     record {
@@ -140,15 +142,15 @@ unfolding front_piece run_piece is_number
 full_line = version_line 51 3 format.Full refl refl
 
 -- a version line, and then lines that mean the schema
-versioned_means : (f : Format) (version : List ℕ) (names : List (List ℕ)) (lines : List (List ℕ)) (deps : List Dependency) (whole : Declarations)
-    → IsVersionLine version f → Bytes version → EachBytes lines → AreReadBack f (naming_in f) names
-    → without_mark (lines_text ((version ∷ lines) ++ map (dependency_text (map (spelling (naming_in f)) names)) deps))
-    ≡ lines_text ((version ∷ lines) ++ map (dependency_text (map (spelling (naming_in f)) names)) deps)
-    → 0 < length whole.names → MeansAll f 2 (lines ++ last_lines (naming_in f) names deps) whole
-    → MeansText ((version ∷ lines) ++ map (dependency_text (map (spelling (naming_in f)) names)) deps) whole
-versioned_means f version names lines deps whole is bytes each are unmarked some means =
+versioned_means : (f : Format) (version : List ℕ) (names : List (List ℕ)) (lines : List (List ℕ)) (deps : List Dependency) (tails : List (List ℕ)) (whole : Declarations)
+    → IsVersionLine version f → Bytes version → EachBytes lines → AreReadBack f (naming_in f) names → AreEnds deps tails
+    → without_mark (lines_text ((version ∷ lines) ++ ended_lines (map (spelling (naming_in f)) names) deps tails))
+    ≡ lines_text ((version ∷ lines) ++ ended_lines (map (spelling (naming_in f)) names) deps tails)
+    → 0 < length whole.names → MeansAll f 2 (lines ++ last_lines (naming_in f) names deps tails) whole
+    → MeansText ((version ∷ lines) ++ ended_lines (map (spelling (naming_in f)) names) deps tails) whole
+versioned_means f version names lines deps tails whole is bytes each are ends unmarked some means =
     let naming = naming_in f in
-    let cut = ap line_texts unmarked ∙ text_cut f naming (version ∷ lines) names deps (bytes, each) are in
+    let cut = ap line_texts unmarked ∙ text_cut f naming (version ∷ lines) names deps tails (bytes, each) are ends in
     let of : List (List ℕ) → Type 0 = λ ls. IsVersionedText ls whole in
     record {
       not_empty = some;
@@ -156,7 +158,7 @@ versioned_means f version names lines deps whole is bytes each are unmarked some
         format = f;
         before = [];
         version = version;
-        later = lines ++ last_lines naming names deps;
+        later = lines ++ last_lines naming names deps tails;
         cut = refl;
         blank = All-nil (λ line. HasTokens (lex (mode.numbered Bare) line) []);
         versioned = is;
@@ -202,39 +204,40 @@ named_bytes f columns names deps is =
     runs_bytes f (runs_of columns names) cut_up.not_empty
     (subst (All (IsReadBack f (naming_in f))) (sym cut_up.names_are) is.are.each)
 
-typed_means : (columns : List ColumnType) (names : List (List ℕ)) (deps : List Dependency)
-    → IsPrintedWith format.Typed columns names deps
-    → MeansText ((codes "version 2" ∷ run_lines Bare (runs_of columns names)) ++ map (dependency_text (map (spelling Bare) names)) deps)
+typed_means : (columns : List ColumnType) (names : List (List ℕ)) (deps : List Dependency) (tails : List (List ℕ))
+    → IsPrintedWith format.Typed columns names deps → AreEnds deps tails
+    → MeansText ((codes "version 2" ∷ run_lines Bare (runs_of columns names)) ++ ended_lines (map (spelling Bare) names) deps tails)
     (declared Bare names columns none deps (2 + length (runs_of columns names)))
-typed_means columns names deps is =
-    versioned_means format.Typed (codes "version 2") names (run_lines Bare (runs_of columns names)) deps _ typed_line refl
-    (named_bytes format.Typed columns names deps is) is.are refl is.some
-    (named_mean format.Typed columns names deps is (last_lines Bare names deps) _
-    (dependencies_mean format.Typed (2 + length (runs_of columns names)) (named Bare names columns) deps is.are is.within
-    (omega (arith, is.deps_within_limit))))
+typed_means columns names deps tails is ends =
+    versioned_means format.Typed (codes "version 2") names (run_lines Bare (runs_of columns names)) deps tails _ typed_line refl
+    (named_bytes format.Typed columns names deps is) is.are ends refl is.some
+    (named_mean format.Typed columns names deps is (last_lines Bare names deps tails) _
+    (dependencies_mean format.Typed (2 + length (runs_of columns names)) (named Bare names columns) deps tails is.are is.within
+    (omega (arith, is.deps_within_limit)) ends))
 
 full_means : (columns : List ColumnType) (names : List (List ℕ)) (nullable : Attributes) (deps : List Dependency)
-    → IsPrintedWith format.Full columns names deps → IsSubset nullable (below (length names))
-    → (number : ℕ) × MeansText (schema_lines Any columns (map (spelling Any) names) nullable ++ map (dependency_text (map (spelling Any) names)) deps)
+    (tails : List (List ℕ)) → IsPrintedWith format.Full columns names deps → IsSubset nullable (below (length names))
+    → AreEnds deps tails
+    → (number : ℕ) × MeansText (schema_lines Any columns (map (spelling Any) names) nullable ++ ended_lines (map (spelling Any) names) deps tails)
     (declared Any names columns nullable deps number)
 unfolding schema_lines
-full_means columns names nullable deps is within =
+full_means columns names nullable deps tails is within ends =
     let runs = run_lines Any (runs_of columns names) in
     let missing = nullable_lines (members_from nullable 0 (map (spelling Any) names)) in
-    let last = last_lines Any names deps in
+    let last = last_lines Any names deps tails in
     let number = (2 + length (runs_of columns names)) + length missing in
     let whole = declared Any names columns nullable deps number in
     let same : map run_line (runs_of columns (map (spelling Any) names)) ≡ runs = ap (map run_line) (runs_spelled Any columns names) in
-    let stated = dependencies_mean format.Full number (with_nullable (named Any names columns) nullable) deps is.are is.within
-    (omega (arith, is.deps_within_limit)) in
+    let stated = dependencies_mean format.Full number (with_nullable (named Any names columns) nullable) deps tails is.are is.within
+    (omega (arith, is.deps_within_limit)) ends in
     let after_names = nullable_mean (2 + length (runs_of columns names)) (named Any names columns) nullable last whole is.are within refl stated in
     let means = named_mean format.Full columns names deps is (missing ++ last) whole after_names in
     let bytes = each_append runs missing (named_bytes format.Full columns names deps is) (nullable_bytes nullable names is.are) in
     let of_lines : List (List ℕ) → Type 0 = λ ls. MeansAll format.Full 2 ls whole in
-    let of : List (List ℕ) → Type 0 = λ ls. MeansText ((codes "version 3" ∷ (ls ++ missing)) ++ map (dependency_text (map (spelling Any) names)) deps) whole in (
+    let of : List (List ℕ) → Type 0 = λ ls. MeansText ((codes "version 3" ∷ (ls ++ missing)) ++ ended_lines (map (spelling Any) names) deps tails) whole in (
       number,
-      subst of (sym same) (versioned_means format.Full (codes "version 3") names (runs ++ missing) deps whole full_line refl
-          bytes is.are refl is.some (subst of_lines (sym (append_assoc runs missing last)) means)),
+      subst of (sym same) (versioned_means format.Full (codes "version 3") names (runs ++ missing) deps tails whole full_line refl
+          bytes is.are ends refl is.some (subst of_lines (sym (append_assoc runs missing last)) means)),
     )
 
 -- ---- a schema
@@ -267,18 +270,18 @@ typed_names columns names are no_type_name some = record {
         (any.0, any.2, ap (get_or columns any.0) (sym is_one) ∙ any.3 ∙ is_one)
 
 -- what is printed of these parts of a schema means them
-abbrev Means : Naming → List ColumnType → List (List ℕ) → Attributes → List Dependency → Type 0
-Means naming columns names nullable deps =
+abbrev pub Means : Naming → List ColumnType → List (List ℕ) → Attributes → List Dependency → List (List ℕ) → Type 0
+Means naming columns names nullable deps tails =
     (lines : List ℕ) × MeansText (schema_lines naming columns (map (spelling naming) names) nullable
-    ++ map (dependency_text (map (spelling naming) names)) deps)
+    ++ ended_lines (map (spelling naming) names) deps tails)
     (record { names = names; columns = columns; deps = deps; lines = lines; naming = naming; nullable = nullable })
 
-bare_means : (s : Schema) → naming_of s ≡ Bare → length (theory_of s) ≤ MOST_DEPENDENCY_LINES
+bare_means : (s : Schema) (tails : List (List ℕ)) → naming_of s ≡ Bare → length (theory_of s) ≤ MOST_DEPENDENCY_LINES
     → AreReadBack format.Plain Bare (names_of s)
-    → All (IsWithin (universe_of s)) (theory_of s)
-    → Means Bare (types_of s) (names_of s) (nullable_of s) (theory_of s)
+    → All (IsWithin (universe_of s)) (theory_of s) → AreEnds (theory_of s) tails
+    → Means Bare (types_of s) (names_of s) (nullable_of s) (theory_of s) tails
 unfolding schema_lines declaring_lines
-bare_means s bare deps_within_limit are within = by_cases (list_any is_integer (types_of s)) refl
+bare_means s tails bare deps_within_limit are within ends = by_cases (list_any is_integer (types_of s)) refl
   where
     parts : AreBare (names_of s) (types_of s) (nullable_of s)
     parts = s.typed.bare bare
@@ -287,9 +290,9 @@ bare_means s bare deps_within_limit are within = by_cases (list_any is_integer (
     unset = fun_ext (λ k. parts.none_nullable k)
 
     by_cases : (b : Bool) → list_any is_integer (types_of s) ≡ b
-        → Means Bare (types_of s) (names_of s) (nullable_of s) (theory_of s)
+        → Means Bare (types_of s) (names_of s) (nullable_of s) (theory_of s) tails
     by_cases true some =
-        let means = typed_means (types_of s) (names_of s) (theory_of s) (record {
+        let means = typed_means (types_of s) (names_of s) (theory_of s) tails (record {
           some = s.valid.names_not_empty;
           within_limit = s.valid.names_within_limit;
           are = typed_names (types_of s) (names_of s) are parts.are_columns.no_type_name some;
@@ -297,18 +300,52 @@ bare_means s bare deps_within_limit are within = by_cases (list_any is_integer (
           printed = parts.are_columns.plain;
           within = within;
           deps_within_limit = deps_within_limit;
-        }) in
+        }) ends in
         rw (unset, some) (
           line_numbers (2 + length (runs_of (types_of s) (names_of s))) (theory_of s),
           rw (runs_spelled Bare (types_of s) (names_of s)) means,
         )
     by_cases false none_integer =
-        let means = plain_means (names_of s) (theory_of s) are s.valid.names_not_empty
-        s.valid.names_within_limit within deps_within_limit in
+        let means = plain_means (names_of s) (theory_of s) tails are s.valid.names_not_empty
+        s.valid.names_within_limit within deps_within_limit ends in
         let text = all_text (types_of s) (names_of s) parts.are_columns.one_each parts.are_columns.plain none_integer in
         rw (unset, none_integer) (line_numbers 2 (theory_of s), rw text at means)
 
--- what is printed of a schema means it, where its names are read again
+-- what is printed of a schema means it, where its names are read again, whatever ends the lines of its dependencies
+pub ended-schema-law : (s : Schema) (tails : List (List ℕ)) → length (deps_of s) ≤ MOST_DEPENDENCY_LINES
+    → All (IsReadBack format.Plain (naming_of s)) (names_of s) → AreEnds (theory_of s) tails
+    → Means (naming_of s) (types_of s) (names_of s) (nullable_of s) (theory_of s) tails
+ended-schema-law s tails within_limit each ends = by_naming (naming_of s) refl
+  where
+    size : length (theory_of s) ≤ MOST_DEPENDENCY_LINES
+    size = let same = length-map (deps_of s) dependency_of in omega (arith, same, within_limit)
+
+    within : All (IsWithin (universe_of s)) (theory_of s)
+    within = dependencies_all-from (IsWithin (universe_of s)) (deps_of s) s.valid.deps_within
+
+    as_named : (naming : Naming) → naming_of s ≡ naming → Means naming (types_of s) (names_of s) (nullable_of s) (theory_of s) tails
+        → Means (naming_of s) (types_of s) (names_of s) (nullable_of s) (theory_of s) tails
+    as_named naming same means =
+        subst (λ (n : Naming). Means n (types_of s) (names_of s) (nullable_of s) (theory_of s) tails) (sym same) means
+
+    by_naming : (naming : Naming) → naming_of s ≡ naming
+        → Means (naming_of s) (types_of s) (names_of s) (nullable_of s) (theory_of s) tails
+    by_naming Bare bare =
+        let all = subst (λ (n : Naming). All (IsReadBack format.Plain n) (names_of s)) bare each in
+        as_named Bare bare (bare_means s tails bare size (record { each = all; differ = s.valid.names_differ }) within ends)
+    by_naming Any any =
+        let means = full_means (types_of s) (names_of s) (nullable_of s) (theory_of s) tails (record {
+          some = s.valid.names_not_empty;
+          within_limit = s.valid.names_within_limit;
+          are = record { each = subst (λ (n : Naming). All (IsReadBack format.Plain n) (names_of s)) any each; differ = s.valid.names_differ };
+          one_each = s.typed.one_each;
+          printed = s.typed.each;
+          within = within;
+          deps_within_limit = size;
+        }) s.typed.nullable_within ends in
+        as_named Any any (line_numbers means.0 (theory_of s), means.1)
+
+-- and so where nothing ends them
 pub printed-schema-law : (s : Schema) → length (deps_of s) ≤ MOST_DEPENDENCY_LINES
     → All (IsReadBack format.Plain (naming_of s)) (names_of s)
     → (lines : List ℕ) × MeansSchema (schema_text s (theory_of s)) (record {
@@ -320,32 +357,9 @@ pub printed-schema-law : (s : Schema) → length (deps_of s) ≤ MOST_DEPENDENCY
       nullable = nullable_of s;
     })
 unfolding schema_text printed_names_of
-printed-schema-law s within_limit each = by_naming (naming_of s) refl
-  where
-    size : length (theory_of s) ≤ MOST_DEPENDENCY_LINES
-    size = let same = length-map (deps_of s) dependency_of in omega (arith, same, within_limit)
-
-    within : All (IsWithin (universe_of s)) (theory_of s)
-    within = dependencies_all-from (IsWithin (universe_of s)) (deps_of s) s.valid.deps_within
-
-    as_named : (naming : Naming) → naming_of s ≡ naming → Means naming (types_of s) (names_of s) (nullable_of s) (theory_of s)
-        → Means (naming_of s) (types_of s) (names_of s) (nullable_of s) (theory_of s)
-    as_named naming same means =
-        subst (λ (n : Naming). Means n (types_of s) (names_of s) (nullable_of s) (theory_of s)) (sym same) means
-
-    by_naming : (naming : Naming) → naming_of s ≡ naming
-        → Means (naming_of s) (types_of s) (names_of s) (nullable_of s) (theory_of s)
-    by_naming Bare bare =
-        let all = subst (λ (n : Naming). All (IsReadBack format.Plain n) (names_of s)) bare each in
-        as_named Bare bare (bare_means s bare size (record { each = all; differ = s.valid.names_differ }) within)
-    by_naming Any any =
-        let means = full_means (types_of s) (names_of s) (nullable_of s) (theory_of s) (record {
-          some = s.valid.names_not_empty;
-          within_limit = s.valid.names_within_limit;
-          are = record { each = subst (λ (n : Naming). All (IsReadBack format.Plain n) (names_of s)) any each; differ = s.valid.names_differ };
-          one_each = s.typed.one_each;
-          printed = s.typed.each;
-          within = within;
-          deps_within_limit = size;
-        }) s.typed.nullable_within in
-        as_named Any any (line_numbers means.0 (theory_of s), means.1)
+printed-schema-law s within_limit each =
+    let heading = schema_lines (naming_of s) (types_of s) (map (spelling (naming_of s)) (names_of s)) (nullable_of s) in
+    let of : List (List ℕ) → Type 0 = λ stated.
+    (lines : List ℕ) × MeansText (heading ++ stated) (record { names = names_of s; columns = types_of s; deps = theory_of s; lines = lines; naming = naming_of s; nullable = nullable_of s }) in
+    subst of (ended_lines-none (map (spelling (naming_of s)) (names_of s)) (theory_of s))
+    (ended-schema-law s (no_ends (theory_of s)) within_limit each (AreEnds-none (theory_of s)))

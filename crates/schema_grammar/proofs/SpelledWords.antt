@@ -17,7 +17,8 @@ use Rattle.lexer.specs.Modes.{has_quotes}
 use Rattle.lexer.specs.Tokens.{Mark, Lexed, tokens_after, led_by_mark}
 use Rattle.lexer.proofs.QuotedNames.{quoted_lexed}
 use Rattle.lexer.proofs.Quoting.{name_test}
-use Rattle.lexer.proofs.Steps.{at_token, at_end}
+use Rattle.lexer.proofs.Steps.{at_token, at_comment, at_end}
+use Rattle.lexer.specs.declared.piece.Piece.TheVariants as piece
 use Rattle.lexer.specs.Pieces.{front_piece}
 use Rattle.schema_printer.specs.Printing.{words_text, side_text, members_from}
 use Rattle.schema_printer.specs.Spelling.{is_schema_word, spelling}
@@ -205,6 +206,38 @@ last_side f naming m column names taken all =
     ap (tokens_after m 0 column) (sym (append-nil (side_text (map (spelling naming) names))))
     ∙ side_lexed f naming m column names [] taken all (tt, refl)
     ∙ ap (led_by_all (side_marks naming column names)) (nothing_left m (side_end naming column names))
+    ∙ ap (λ ms. record { marks = ms; stop = None }) (append-nil (side_marks naming column names))
+
+-- what ends a line without a token: nothing, or a comment after a blank
+pub record EndsLine (tail : List ℕ) : Type 0 where
+  pub parted : Parted tail
+  pub bytes : Bytes tail
+  pub none : (m : Mode) (column : ℕ) → m.comments ≡ true
+      → tokens_after m 0 column tail ≡ record { marks = []; stop = None }
+
+pub nothing_ends : EndsLine []
+nothing_ends = record { parted = (tt, refl); bytes = refl; none = λ m column taken. nothing_left m column }
+
+front_comment : (m : Mode) (text : List ℕ) → m.comments ≡ true → front_piece m (35 ∷ text) ≡ piece.Comment
+unfolding front_piece
+front_comment m text taken = rw taken refl
+
+pub comment_ends : (text : List ℕ) → Bytes text → EndsLine (32 ∷ 35 ∷ text)
+comment_ends text bytes = record {
+  parted = (refl, refl);
+  bytes = bytes_both (32 ∷ 35 ∷ []) text refl bytes;
+  none = λ m column taken.
+      blank_lexed m column (35 ∷ text)
+      ∙ at_comment m (column + 1) (35 ∷ text) (omega arith) (sym (front_comment m text taken));
+}
+
+pub ended_side : (f : Format) (naming : Naming) (m : Mode) (column : ℕ) (names : List (List ℕ)) (tail : List ℕ)
+    → m.quotes ≡ has_quotes naming → m.comments ≡ true → All (IsReadBack f naming) names → EndsLine tail
+    → tokens_after m 0 column (side_text (map (spelling naming) names) ++ tail)
+    ≡ record { marks = side_marks naming column names; stop = None }
+ended_side f naming m column names tail taken comments all ends =
+    side_lexed f naming m column names tail taken all ends.parted
+    ∙ ap (led_by_all (side_marks naming column names)) (ends.none m (side_end naming column names) comments)
     ∙ ap (λ ms. record { marks = ms; stop = None }) (append-nil (side_marks naming column names))
 
 -- a word, and names each after a blank

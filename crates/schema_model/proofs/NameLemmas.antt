@@ -1,5 +1,5 @@
 -- Where a name stands among names, and that each bare name is a name, and the text of each type.
-use Rattle.std.proofs.Common.{◌≡◌, ◌+◌, ◌<◌, ◌≤◌, ◌&&◌, ℕ, zero, suc, Bool, true, false, List, [], ◌∷◌, ◌++◌, length, get_or, Some, refl, arith, length-append, lt-ltb}
+use Rattle.std.proofs.Common.{◌≡◌, ◌+◌, ◌<◌, ◌≤◌, ◌&&◌, ◌==◌, ℕ, zero, suc, Bool, true, false, List, [], ◌∷◌, ◌++◌, length, get_or, Some, refl, arith, length-append, lt-ltb}
 use Rattle.std.specs.Prelude.{nat_lt, nat_le, slice_index, All}
 use Rattle.std.specs.Char.{is_ascii_alphabetic}
 use Rattle.std.specs.List.{position_or_len, list_all, list_any}
@@ -12,7 +12,7 @@ use Rattle.std.proofs.lemmas.Bool.Decides.{nat_tests}
 use Rattle.std.proofs.lemmas.Str.{IsUtf8-from_ascii}
 use Rattle.schema_model.specs.declared.name.TheConstants.{MOST_BARE_NAME_BYTES, MOST_NAME_BYTES}
 use Rattle.schema_model.specs.declared.type_name.TheConstants.{MOST_TYPE_BYTES}
-use Rattle.schema_model.specs.Names.{IsName, is_control, is_name_byte, is_word, is_bare_name, is_type_byte, is_type_text, same_name}
+use Rattle.schema_model.specs.Names.{IsName, is_control, begins_with_mark, is_name_byte, is_word, is_bare_name, is_type_byte, is_type_text, same_name}
 use Rattle.schema_model.specs.Schemas.{attribute_named}
 
 -- a name is found at its position
@@ -42,6 +42,12 @@ module _ (test : ℕ → Bool) (each : (b : ℕ) → test b ≡ true → (b < 12
       let parts = and_parts (test b) (list_all test bytes) all in
       rw ((each b parts.0).1) (bytes_no_control bytes parts.1)
 
+  bytes_no_mark : (bytes : List ℕ) → list_all test bytes ≡ true → begins_with_mark bytes ≡ false
+  bytes_no_mark [] all = refl
+  bytes_no_mark (b ∷ bytes) all =
+      let low = (each b (and_parts (test b) (list_all test bytes) all).0).0 in
+      let other : (239 == b) ≡ false = grind (arith, nat_tests, low) in rw other refl
+
   -- are a name, where there are some and not too many
   named : (bytes : List ℕ) → list_all test bytes ≡ true → 0 < length bytes → length bytes ≤ MOST_NAME_BYTES → IsName bytes
   named bytes all some few = record {
@@ -49,6 +55,7 @@ module _ (test : ℕ → Bool) (each : (b : ℕ) → test b ≡ true → (b < 12
     within_limit = few;
     utf8 = IsUtf8-from_ascii bytes (bytes_ascii bytes all);
     no_control = bytes_no_control bytes all;
+    no_mark = bytes_no_mark bytes all;
   }
 
 name_byte : (b : ℕ) → is_name_byte b ≡ true → (b < 128) × (is_control b ≡ false)

@@ -1,7 +1,7 @@
 -- Which bytes are names, and which names are the same: for schemas, their grammar and the names of
 -- columns and tables.
-use Rattle.std.specs.Prelude.{ℕ, ◌<◌, ◌≤◌, Bool, ◌&&◌, ◌||◌, ◌==◌, nat_lt, nat_le, if◌then◌else◌, List, [], ◌∷◌, ◌++◌, length, slice_index, codes, IsUtf8, IsFalse}
-use Rattle.std.specs.List.{list_all, list_any, flat_map}
+use Rattle.std.specs.Prelude.{ℕ, ◌<◌, ◌≤◌, Bool, ◌&&◌, ◌||◌, ◌==◌, nat_lt, nat_le, nat_eq, if◌then◌else◌, List, [], ◌∷◌, ◌++◌, length, slice_index, codes, IsUtf8, IsFalse}
+use Rattle.std.specs.List.{list_all, list_any, flat_map, starts_with}
 use Rattle.std.specs.Char.{is_ascii_alphabetic, is_ascii_alphanumeric}
 use Rattle.std.specs.Str.{str_eq_ignore_ascii_case}
 use Rattle.schema_model.specs.declared.name.TheConstants.{MOST_NAME_BYTES, MOST_BARE_NAME_BYTES}
@@ -11,12 +11,17 @@ use Rattle.schema_model.specs.declared.type_name.TheConstants.{MOST_TYPE_BYTES}
 abbrev pub is_control : ℕ → Bool
 is_control b = nat_lt b 32 || (b == 127)
 
--- 1 to `MOST_NAME_BYTES` bytes of UTF-8, of which none is a control character
+-- U+FEFF stands in front, the byte-order mark that readers take from the front of a text
+abbrev pub begins_with_mark : List ℕ → Bool
+begins_with_mark bytes = starts_with nat_eq bytes (239 ∷ 187 ∷ 191 ∷ [])
+
+-- 1 to `MOST_NAME_BYTES` bytes of UTF-8, of which none is a control character, with no byte-order mark in front
 pub record IsName (bytes : List ℕ) : Type 0 where
   pub some_bytes : 0 < length bytes
   pub within_limit : length bytes ≤ MOST_NAME_BYTES
   pub utf8 : IsUtf8 bytes
   pub no_control : IsFalse (list_any is_control bytes)
+  pub no_mark : IsFalse (begins_with_mark bytes)
 
 -- a letter, a digit or `_`
 abbrev pub is_name_byte : ℕ → Bool

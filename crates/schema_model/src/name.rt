@@ -1,6 +1,6 @@
 ghost use Rattle.std.specs.Prelude.{◌≡◌, ℕ, ◌↔◌, ◌≤◌, List, length, IsTrue, IsSome, IfSome};
 ghost use Rattle.std.specs.List.{list_all, list_any};
-ghost use Rattle.schema_model.specs.Names.{IsName, is_bare_name, is_name_byte, is_control, same_name};
+ghost use Rattle.schema_model.specs.Names.{IsName, is_bare_name, is_name_byte, is_control, begins_with_mark, same_name};
 
 use crate::held_bytes::HeldBytes;
 use std::marker::Model;
@@ -11,7 +11,8 @@ pub const MOST_NAME_BYTES: usize = 63;
 /// The most bytes of a bare name.
 pub const MOST_BARE_NAME_BYTES: usize = 31;
 
-/// A name: 1 to `MOST_NAME_BYTES` bytes of UTF-8 without control characters of ASCII.
+/// A name: 1 to `MOST_NAME_BYTES` bytes of UTF-8 without control characters of ASCII, of which U+FEFF
+/// is not the first character.
 #[derive(Clone, Copy, Debug)]
 pub struct Name {
     held: HeldBytes,
@@ -61,7 +62,11 @@ impl Name {
 fn is_name(bytes: &[u8]) -> bool
     ensures name { IsTrue result ↔ IsName bytes.now }
 {
-    if bytes.is_empty() || bytes.len() > MOST_NAME_BYTES || has_control(bytes) {
+    if bytes.is_empty()
+        || bytes.len() > MOST_NAME_BYTES
+        || has_control(bytes)
+        || begins_with_mark(bytes)
+    {
         return false;
     }
     match str::from_utf8(bytes) {
@@ -75,6 +80,13 @@ fn has_control(bytes: &[u8]) -> bool
     ensures control { result ≡ list_any is_control bytes.now }
 {
     bytes.iter().any(|b| *b < 32 || *b == 127)
+}
+
+// Whether U+FEFF, the byte-order mark, stands in front.
+fn begins_with_mark(bytes: &[u8]) -> bool
+    ensures mark { result ≡ begins_with_mark bytes.now }
+{
+    bytes.starts_with(b"\xEF\xBB\xBF")
 }
 
 /// Whether the bytes are a bare name: a letter, then letters, digits and `_`, at most

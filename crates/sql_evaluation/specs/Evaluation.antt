@@ -3,10 +3,10 @@ use Rattle.std.specs.Prelude.{ℕ, ℤ, Bool, false, not, ◌&&◌, ◌==◌, if
 use Rattle.std.specs.List.{list_any}
 use Rattle.std.specs.Set.{unique_keys}
 use Rattle.std.specs.Str.{bytes_eq}
-use Rattle.sql_syntax.specs.Syntax.{Column, Scalar, column, Condition, Item, own, named, unnamed, Clause, each_row, rows_where, group_where, groups_by, Link, by_columns, crosswise, Query, stored, select, union_all, except, joined, all_columns, one_row}
+use Rattle.sql_syntax.specs.Syntax.{Column, Scalar, column, Condition, Item, own, named, unnamed, Clause, each_row, rows_where, group_where, groups_by, Link, by_columns, left_by_columns, crosswise, Query, stored, select, union_all, except, joined, all_columns, one_row}
 use Rattle.sql_evaluation.specs.Cells.{Cell, same_row}
 use Rattle.sql_evaluation.specs.Values.{each, bytes_of, named_cell, Look, look_at, View, value, holds}
-use Rattle.sql_evaluation.specs.Joins.{is_name_of, rows_joined}
+use Rattle.sql_evaluation.specs.Joins.{is_name_of, rows_joined, rows_left_joined}
 
 -- rows with named columns, whose order means nothing
 pub record Rows : Type 0 where
@@ -127,6 +127,12 @@ joined_by by a b =
     option_map (λ rows. record { names = a.names ++ filter (λ name. not (is_name_of by name)) b.names; rows = rows })
     (rows_joined by a.names b.names a.rows b.rows)
 
+-- the same, where a row of the first with which none of the second agrees stays, and misses the values of the other columns
+abbrev pub left_joined_by : List (List ℕ) → Rows → Rows → Option Rows
+left_joined_by by a b =
+    option_map (λ rows. record { names = a.names ++ filter (λ name. not (is_name_of by name)) b.names; rows = rows })
+    (rows_left_joined by a.names b.names a.rows b.rows)
+
 -- the columns of these names
 abbrev pub columns_of : List (List ℕ) → Rows → Option Rows
 columns_of names a =
@@ -136,6 +142,7 @@ columns_of names a =
 -- a table that is joined to what stands before it
 abbrev pub linked : Engine → Rows → Link → Option Rows
 linked e a (by_columns name columns) = option_and_then (joined_by (map bytes_of columns) a) (e.tables name)
+linked e a (left_by_columns name columns) = option_and_then (left_joined_by (map bytes_of columns) a) (e.tables name)
 linked e a (crosswise name) = option_and_then (joined_by [] a) (e.tables name)
 
 abbrev pub all_linked : Engine → List Link → Rows → Option Rows

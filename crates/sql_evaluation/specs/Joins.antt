@@ -1,8 +1,8 @@
 -- Rows beside rows: for the joins of queries.
-use Rattle.std.specs.Prelude.{ℕ, Bool, true, ◌&&◌, if◌then◌else◌, Option, Some, List, [], ◌∷◌, ◌++◌}
+use Rattle.std.specs.Prelude.{ℕ, Bool, true, not, ◌&&◌, if◌then◌else◌, Option, Some, List, [], ◌∷◌, ◌++◌, map, filter}
 use Rattle.std.specs.List.{list_any}
 use Rattle.std.specs.Str.{bytes_eq}
-use Rattle.sql_evaluation.specs.Cells.{Cell, equal}
+use Rattle.sql_evaluation.specs.Cells.{Cell, missing, equal}
 use Rattle.sql_evaluation.specs.Values.{of_both, named_cell}
 
 -- whether a name is one of these
@@ -37,3 +37,20 @@ rows_joined by names others [] more = Some []
 rows_joined by names others (row ∷ rows) more =
     of_both (λ here rest. Some (here ++ rest)) (row_joined by names others row more)
     (rows_joined by names others rows more)
+
+-- ---- rows that stay where none agrees with them
+-- missing values in the columns of other names
+abbrev pub missing_beside : List (List ℕ) → List (List ℕ) → List Cell
+missing_beside by names = map (λ name. missing) (filter (λ name. not (is_name_of by name)) names)
+
+-- what comes of a row, or where nothing does the row alone
+abbrev pub or_alone : List (List ℕ) → List (List ℕ) → List Cell → List (List Cell) → List (List Cell)
+or_alone by others row [] = (row ++ missing_beside by others) ∷ []
+or_alone by others row (first ∷ found) = first ∷ found
+
+abbrev pub rows_left_joined : List (List ℕ) → List (List ℕ) → List (List ℕ) → List (List Cell) → List (List Cell)
+    → Option (List (List Cell))
+rows_left_joined by names others [] more = Some []
+rows_left_joined by names others (row ∷ rows) more =
+    of_both (λ here rest. Some (or_alone by others row here ++ rest)) (row_joined by names others row more)
+    (rows_left_joined by names others rows more)

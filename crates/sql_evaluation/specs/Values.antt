@@ -1,7 +1,7 @@
 -- The values and tests of a row or a group: for queries.
-use Rattle.std.specs.Prelude.{ℕ, ℤ, pos, Bool, ◌||◌, if◌then◌else◌, Option, Some, None, List, [], ◌∷◌, length, option_map, option_and_then}
+use Rattle.std.specs.Prelude.{ℕ, ℤ, pos, Bool, not, ◌&&◌, ◌||◌, if◌then◌else◌, Option, Some, None, List, [], ◌∷◌, length, option_map, option_and_then}
 use Rattle.std.specs.Str.{bytes_eq}
-use Rattle.sql_syntax.specs.Syntax.{ColumnName, attribute, helper, Column, Scalar, column, as_text, as_integer, with_empty_text, number_zero, number_one, written_number, missing_value, count, sum, greatest, sum_product, less_sum, Condition, is_missing, differs, equals, exceeds, either}
+use Rattle.sql_syntax.specs.Syntax.{ColumnName, attribute, helper, Column, Scalar, column, as_text, as_integer, with_empty_text, number_zero, number_one, written_number, missing_value, count, sum, greatest, sum_product, less_sum, Condition, is_missing, is_present, differs, equals, exceeds, either, both}
 use Rattle.sql_evaluation.specs.Cells.{Cell, missing, number, text_of, followed_by, integer_of, total, greatest_of, multiplied, subtracted, differ, equal, exceed, is_none}
 
 -- ---- errors
@@ -63,7 +63,9 @@ value cast v (less_sum x c) = of_both subtracted (value cast v x) (sum_of v c)
 -- ---- tests
 abbrev pub holds : (List ℕ → Option ℤ) → View → Condition → Option Bool
 holds cast v (is_missing x) = option_map is_none (value cast v x)
+holds cast v (is_present x) = option_map (λ c. not (is_none c)) (value cast v x)
 holds cast v (differs x y) = of_both differ (value cast v x) (value cast v y)
 holds cast v (equals x y) = of_both equal (value cast v x) (value cast v y)
 holds cast v (exceeds x y) = of_both exceed (value cast v x) (value cast v y)
 holds cast v (either p q) = of_both (λ a b. Some (a || b)) (holds cast v p) (holds cast v q)
+holds cast v (both p q) = of_both (λ a b. Some (a && b)) (holds cast v p) (holds cast v q)

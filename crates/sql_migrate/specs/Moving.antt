@@ -4,16 +4,12 @@ use Rattle.attr_sets.specs.Attributes.{Attributes}
 use Rattle.schema_model.specs.Schemas.{Schema}
 use Rattle.schema_model.specs.Columns.{is_plain_type}
 use Rattle.dep_model.specs.Projections.{members_below}
-use Rattle.schema_model.specs.Schemas.{names_of, width_of}
-use Rattle.schema_printer.specs.Printing.{members_from, is_integer}
-use Rattle.sql_syntax.specs.Syntax.{ColumnName, attribute, column, as_integer, Item, own, unnamed}
+use Rattle.schema_model.specs.Schemas.{width_of}
+use Rattle.schema_printer.specs.Printing.{is_integer}
+use Rattle.sql_syntax.specs.Syntax.{column, as_integer, Item, own, unnamed}
 use Rattle.sql_migrate.specs.declared.moving.Move.{Move}
 use Rattle.sql_migrate.specs.declared.moving.Move.TheVariants.{Entering, Returning}
 use Rattle.sql_check.specs.Columns.{name_at, type_at, named_column, by_text, compared}
-
--- the names of a set's attributes, ascending
-abbrev pub attribute_names : Schema → Attributes → List ColumnName
-attribute_names s x = map attribute (members_from x 0 (names_of s))
 
 -- ---- the copy
 -- a column of the user's table: a text or an integer by its text, any other value as it is

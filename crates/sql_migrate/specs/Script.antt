@@ -3,18 +3,20 @@ use Rattle.std.specs.Prelude.{ℕ, true, false, if◌then◌else◌, None, List,
 use Rattle.attr_sets.specs.Attributes.{Attributes, union, intersection}
 use Rattle.attr_sets.specs.Sets.{attributes}
 use Rattle.dep_model.specs.JoinOrders.{from_last}
+use Rattle.dep_model.specs.Projections.{members_below}
+use Rattle.optional_tables.specs.Order.{always_filled, look_up_order, members_at}
 use Rattle.schema_model.specs.Schemas.{Schema}
-use Rattle.schema_model.specs.Schemas.{width_of, universe_of}
+use Rattle.schema_model.specs.Schemas.{width_of, universe_of, nullable_of}
 use Rattle.ddl_text.specs.declared.table.TableDesign.{TableDesign}
-use Rattle.ddl_text.specs.Ddl.{is_empty}
-use Rattle.sql_syntax.specs.Names.{quoted_name}
-use Rattle.sql_syntax.specs.Syntax.{helper, number_zero, number_one, missing_value, count, equals, unnamed, each_row, rows_where, groups_by, Link, by_columns, crosswise, Query, stored, select, union_all, except, joined, all_columns, one_row}
+use Rattle.ddl_text.specs.Ddl.{is_empty, tables_made}
+use Rattle.ddl_text.specs.Designs.{keyed}
+use Rattle.sql_syntax.specs.Names.{attribute_names, quoted_name}
+use Rattle.sql_syntax.specs.Syntax.{helper, number_zero, number_one, missing_value, count, column, Condition, is_present, equals, both, unnamed, Clause, each_row, rows_where, groups_by, Link, by_columns, left_by_columns, crosswise, Query, stored, select, union_all, except, joined, all_columns, one_row}
 use Rattle.sql_syntax.specs.Statements.{Statement, remark, begin, commit, create_zeros, create_from, create_view, insert_into, insert_all, drop_table}
-use Rattle.sql_check.specs.Columns.{compared_on}
+use Rattle.sql_check.specs.Columns.{name_at, named_column, compared_on}
 use Rattle.sql_migrate.specs.declared.joining.JoinedTable.{JoinedTable}
-use Rattle.sql_migrate.specs.Moving.{attribute_names, copied_on, moved_on}
+use Rattle.sql_migrate.specs.Moving.{copied_on, moved_on}
 use Rattle.sql_migrate.specs.declared.moving.Move.TheVariants.{Entering, Returning}
-use Rattle.sql_migrate.specs.Created.{tables_made}
 
 -- ---- names
 -- of the copy of the user's table, of the view, and of the table of the test
@@ -32,14 +34,31 @@ test_name = codes "\"t00\""
 unfoldable pub copy_query : Schema → List ℕ → Query
 copy_query s table = select false (copied_on s (universe_of s)) (stored table) (codes "r") each_row
 
--- the values of the copy on a set, each once
-unfoldable pub fill_query : Schema → Attributes → Query
-fill_query s x = select true (moved_on s Entering x) (stored copy_name) (codes "o") each_row
+-- a row of the copy has values of attributes
+abbrev pub has_value : Schema → ℕ → Condition
+has_value s k = is_present (column (named_column (codes "o") (name_at s k)))
+
+abbrev pub have_values : Schema → ℕ → List ℕ → Condition
+have_values s k [] = has_value s k
+have_values s k (j ∷ ks) = both (has_value s k) (have_values s j ks)
+
+abbrev pub rows_with : Schema → List ℕ → Clause
+rows_with s [] = each_row
+rows_with s (k ∷ ks) = rows_where (have_values s k ks)
+
+-- the rows of the copy that miss no value of a key
+abbrev pub complete_rows : Schema → Attributes → Clause
+complete_rows s key = rows_with s (members_below (width_of s) (intersection key (nullable_of s)))
+
+-- the values on a table of those rows of the copy that miss none of its key, each once
+unfoldable pub fill_query : Schema → TableDesign → Query
+fill_query s table =
+    select true (moved_on s Entering (attributes table.scheme)) (stored copy_name) (codes "o")
+    (complete_rows s (attributes table.key))
 
 unfoldable pub fill : Schema → TableDesign → Statement
 fill s table =
-    insert_into (quoted_name table.name) (attribute_names s (attributes table.scheme))
-    (fill_query s (attributes table.scheme))
+    insert_into (quoted_name table.name) (attribute_names s (attributes table.scheme)) (fill_query s table)
 
 -- ---- the view
 -- a table that is joined to others by the attributes that they share, or else each row with each
@@ -53,15 +72,27 @@ links s seen [] = []
 links s seen (table ∷ tables) =
     link s (intersection seen (attributes table.scheme)) table ∷ links s (union seen (attributes table.scheme)) tables
 
--- the natural join of tables, one after the other
-abbrev pub join_of : Schema → List JoinedTable → Query
-join_of s [] = joined (attribute_names s (universe_of s)) [] []
-join_of s (first ∷ tables) =
-    joined (attribute_names s (universe_of s)) (quoted_name first.name) (links s (attributes first.scheme) tables)
+-- a table that is looked up by its key
+abbrev pub look_up : Schema → TableDesign → Link
+look_up s table = left_by_columns (quoted_name table.name) (attribute_names s (attributes table.key))
+
+-- the natural join of tables, one after the other, and those that are looked up from it
+abbrev pub join_of : Schema → List JoinedTable → List TableDesign → Query
+join_of s [] optional = joined (attribute_names s (universe_of s)) [] (map (look_up s) optional)
+join_of s (first ∷ tables) optional =
+    joined (attribute_names s (universe_of s)) (quoted_name first.name)
+    (links s (attributes first.scheme) tables ++ map (look_up s) optional)
 
 -- the tables of a design, by their names and schemes
 abbrev pub joined_tables : List TableDesign → List JoinedTable
 joined_tables tables = map (λ table. record { name = table.name; scheme = table.scheme }) tables
+
+-- the tables of a design that are not optional, and those that are, in the order in which they are looked up
+abbrev pub filled_tables : Schema → List TableDesign → List TableDesign
+filled_tables s tables = members_at tables (always_filled (nullable_of s) (map keyed tables))
+
+abbrev pub looked_up_tables : Schema → List TableDesign → List TableDesign
+looked_up_tables s tables = members_at tables (look_up_order (nullable_of s) (map keyed tables))
 
 -- the attributes of a table that is joined
 abbrev pub scheme_of_joined : JoinedTable → Attributes
@@ -72,7 +103,7 @@ abbrev pub view_order : List JoinedTable → List JoinedTable
 view_order tables = from_last scheme_of_joined tables
 
 unfoldable pub view_query : Schema → List TableDesign → Query
-view_query s tables = join_of s (view_order (joined_tables tables))
+view_query s tables = join_of s (view_order (joined_tables (filled_tables s tables))) (looked_up_tables s tables)
 
 -- ---- the test
 -- the rows of the user's table beside one of as many missing values as there are attributes, of which none is taken:

@@ -12,13 +12,13 @@ use Rattle.sql_check_laws.proofs.RowLemmas.{some_is}
 
 -- ---- one row
 -- what comes of a row beside others
-record AreBeside (by names others : List (List ℕ)) (row : List Cell) (more found : List (List Cell)) : Type 0 where
-  from : (x : List Cell) → Contains found x → (other : List Cell) × Contains more other
+pub record AreBeside (by names others : List (List ℕ)) (row : List Cell) (more found : List (List Cell)) : Type 0 where
+  pub from : (x : List Cell) → Contains found x → (other : List Cell) × Contains more other
       × (agree_by by names others row other ≡ Some true) × (x ≡ row ++ cells_beside by others other)
-  to : (other : List Cell) → Contains more other → agree_by by names others row other ≡ Some true
+  pub to : (other : List Cell) → Contains more other → agree_by by names others row other ≡ Some true
       → Contains found (row ++ cells_beside by others other)
 
-beside-known : (by names others : List (List ℕ)) (row : List Cell) (more : List (List Cell))
+pub beside-known : (by names others : List (List ℕ)) (row : List Cell) (more : List (List Cell))
     → ((other : List Cell) → Contains more other → (b : Bool) × (agree_by by names others row other ≡ Some b))
     → (found : List (List Cell)) × (row_joined by names others row more ≡ Some found) × AreBeside by names others row more found
 beside-known by names others row [] known =

@@ -1,36 +1,32 @@
 -- A sound run of the script ends without an error.
-use Rattle.std.proofs.Common.{◌≡◌, ◌<◌, ◌≤◌, ℕ, zero, suc, Bool, true, false, not, List, [], ◌∷◌, ◌++◌, length, map, filter, replicate, Some, None, Option, refl, sym, ap, subst, ◌∙◌, inl, inr, ⊎_elim, arith}
-use Rattle.std.proofs.lemmas.Bool.{cases_Bool, eq-eqb}
+use Rattle.std.proofs.Common.{◌≡◌, ℕ, zero, suc, Bool, true, false, not, List, [], ◌∷◌, ◌++◌, length, map, replicate, Some, None, Option, refl, sym, ap, subst, ◌∙◌, ⊎_elim, arith}
+use Rattle.std.proofs.lemmas.Bool.{eq-eqb}
 use Rattle.std.proofs.lemmas.List.{length-map, length-replicate}
-use Rattle.std.specs.Prelude.{Contains, slice_get, pos, if◌then◌else◌, ◌==◌, is_some, option_map, option_and_then, codes}
-use Rattle.std.specs.List.{list_any}
+use Rattle.std.specs.Prelude.{Contains, slice_get, pos, if◌then◌else◌, is_some, option_map, option_and_then, codes}
 use Rattle.std.specs.Set.{unique_keys}
-use Rattle.attr_sets.specs.Attributes.{IsSubset}
-use Rattle.attr_sets.specs.Sets.{attributes}
 use Rattle.schema_model.specs.Schemas.{Schema}
 use Rattle.dep_model.specs.Projections.{members_below}
 use Rattle.schema_model.specs.Schemas.{width_of, universe_of}
-use Rattle.dep_model.specs.Tuples.{Tuple, Relation}
-use Rattle.dep_model.proofs.ListLemmas.{Contains-head, Contains-later, Contains-cases, Contains-map, map-member}
+use Rattle.dep_model.specs.Tuples.{Relation}
+use Rattle.dep_model.proofs.ListLemmas.{Contains-cases, Contains-map, map-member}
 use Rattle.ddl_text.specs.declared.table.TableDesign.{TableDesign}
 use Rattle.sql_syntax.specs.Names.{quoted_name}
-use Rattle.sql_syntax.specs.Syntax.{Scalar, number_zero, number_one, missing_value, helper, count, equals, unnamed, groups_by, rows_where, each_row, Query, except}
+use Rattle.sql_syntax.specs.Syntax.{Scalar, number_zero, number_one, missing_value, helper, count, equals, unnamed, groups_by, rows_where, each_row, Query}
 use Rattle.sql_syntax.specs.Statements.{Statement, remark, begin, commit, create_from, create_view, create_zeros, insert_all, drop_table}
 use Rattle.sql_evaluation.specs.Cells.{Cell, missing, number, same_row}
 use Rattle.sql_evaluation.specs.Values.{each, look_at, View, value, holds}
 use Rattle.sql_evaluation.specs.Evaluation.{Rows, Engine, taken, row_view, item_value, with_items, selected, no_view, row_of_values, appended, is_among, without, excepted, evaluate}
-use Rattle.sql_evaluation.specs.Running.{Held, table, view, State, Cast, Fails, rows_of_table, rows_found, engine_at, with_name, made, with_rows, both_rows, all_zeros, filled, inserted, tried, done, ended, unless_error, run, outcome}
+use Rattle.sql_evaluation.specs.Running.{Held, table, view, State, Cast, Fails, rows_of_table, rows_found, engine_at, with_name, made, filled, inserted, tried, done, ended, unless_error, run, outcome}
 use Rattle.sql_check.specs.Columns.{name_at}
 use Rattle.sql_check_laws.specs.HeldRelations.{Holds}
 use Rattle.sql_check_laws.proofs.CellLemmas.{same_row-decides}
 use Rattle.sql_check_laws.proofs.RowLemmas.{filter-none, none_is_not_some}
 use Rattle.sql_check_laws.proofs.EachLemmas.{filter-known}
 use Rattle.sql_check_laws.proofs.ValuesLemmas.{cells_on, names_on}
-use Rattle.sql_migrate.specs.declared.joining.JoinedTable.{JoinedTable}
 use Rattle.sql_migrate.specs.declared.moving.Move.TheVariants.{Returning}
 use Rattle.sql_migrate.specs.Moving.{moved_on}
-use Rattle.sql_migrate.specs.Created.{tables_made}
-use Rattle.sql_migrate.specs.Script.{copy_name, view_name, test_name, copy_query, fill, joined_tables, view_query, width_query, table_rows, viewed_rows, count_of, lacked, gained, testing, work, migration}
+use Rattle.ddl_text.specs.Ddl.{tables_made}
+use Rattle.sql_migrate.specs.Script.{copy_name, view_name, test_name, copy_query, fill, view_query, width_query, table_rows, viewed_rows, count_of, lacked, gained, testing, work, migration}
 use Rattle.sql_migrate_laws.proofs.RunLemmas.{steps, closed, run_steps, no_commit_work}
 use Rattle.sql_migrate_laws.proofs.StepLemmas.{at_name, past_name, Keeps}
 use Rattle.sql_migrate_laws.proofs.GrowingLemmas.{still-known, still-holds, keeps_past}
@@ -38,8 +34,9 @@ use Rattle.sql_migrate_laws.proofs.RowLemmas.{copied, IsCopied, copy-known, tabl
 use Rattle.sql_migrate_laws.specs.Ending.{IsSoundRun}
 use Rattle.sql_migrate_laws.proofs.EnteredLemmas.{Cells}
 use Rattle.sql_migrate_laws.proofs.FullLemmas.{got_member}
-use Rattle.sql_migrate_laws.proofs.JoinedLemmas.{with_names, projected}
-use Rattle.sql_migrate_laws.proofs.EndedViewLemmas.{as_joined, GivesRelation, HasTables, viewed-known}
+use Rattle.sql_migrate_laws.proofs.JoinedLemmas.{with_names}
+use Rattle.sql_migrate_laws.proofs.JoinedViewLemmas.{HasDesign}
+use Rattle.sql_migrate_laws.proofs.EndedViewLemmas.{GivesRelation, viewed-known}
 use Rattle.sql_migrate_laws.proofs.StageLemmas.{IsAt, got_at, goes_on}
 use Rattle.sql_migrate_laws.proofs.MakingLemmas.{follow_all, step_next, steps_append, made_free, tables_make, tables_fill}
 
@@ -150,13 +147,9 @@ module _ (fails : Fails) (cast : Cast) (s : Schema) (name : List ℕ) (cell : Ce
   unfolding viewed_rows
   viewed-gives z ready =
       let e : Engine = record { tables = λ other. rows_of_table (z other); cast = cast } in
-      let tables : HasTables e s cast cell r (joined_tables designs) = λ x h.
-      let of = map-member as_joined designs x h in
-      let full = ready.stage.full of.1.0 of.0 (got_at designs of.0 of.1) of.1.1 in
-      subst (λ (y : JoinedTable). (e.tables (quoted_name y.name) ≡ Some (projected s cast cell r (attributes y.scheme))) × IsSubset (attributes y.scheme) (universe_of s)) of.2
-      (ap rows_of_table full, sound.fits.within of.0 of.1) in
-      let gives = viewed-known cast s cell r sound.casts sound.integers sound.holds.apart sound.none_missing sound.comparable e designs sound.legal tables
-      sound.fits.shared_required sound.lossless in
+      let known : HasDesign e s cast cell r designs = λ t h. ap rows_of_table (ready.stage.full h.0 t (got_at designs t h) h.1) in
+      let gives = viewed-known cast s cell r sound.casts sound.integers sound.holds.apart sound.none_missing sound.comparable e designs sound.fits sound.legal
+      sound.tidy sound.lossless known in
       let same = ap (λ (held : Option Held). option_and_then (selected cast false (moved_on s Returning (universe_of s)) (codes "j") each_row) (rows_found cast z held)) ready.view_is in
       record { rows = gives.rows; is = same ∙ gives.is; long = gives.long; from = gives.from; to = gives.to }
 

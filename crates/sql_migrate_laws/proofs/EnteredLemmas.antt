@@ -3,18 +3,16 @@ use Rattle.std.proofs.Common.{◌≡◌, ◌<◌, ℕ, Bool, true, false, List, 
 use Rattle.std.proofs.lemmas.Bool.{cases_Bool, true≢false}
 use Rattle.std.proofs.lemmas.Bool.Decides.{Decides-int_eq, nat_tests}
 use Rattle.std.specs.Ordering.{int_eq}
-use Rattle.std.specs.Prelude.{ℤ, Contains, if◌then◌else◌, option_map}
+use Rattle.std.specs.Prelude.{Contains, if◌then◌else◌, option_map}
 use Rattle.std.specs.Str.{bytes_eq}
 use Rattle.schema_model.specs.declared.column_type.ColumnType.{ColumnType}
 use Rattle.schema_model.specs.declared.column_type.ColumnType.TheVariants.{Text, Integer, Date, Timestamp, Decimal, Uuid, Other}
 use Rattle.schema_model.specs.Schemas.{Schema}
 use Rattle.schema_model.specs.Columns.{is_plain_type}
-use Rattle.schema_model.specs.Integers.{IsIntegerText}
 use Rattle.schema_model.specs.Schemas.{width_of, nullable_of}
 use Rattle.dep_model.specs.Tuples.{Tuple, Relation, value_at}
 use Rattle.schema_printer.specs.Printing.{is_integer}
 use Rattle.sql_check.specs.Columns.{type_at}
-use Rattle.sql_check.specs.Checks.{required_of}
 use Rattle.sql_evaluation.specs.Cells.{Cell, missing, text, number, integer_text, text_of, integer_of, equal, is_none}
 use Rattle.sql_evaluation.specs.Running.{Cast}
 use Rattle.sql_check_laws.specs.HeldRelations.{compared_cell, AreApart, CastsIntegers}
@@ -47,10 +45,23 @@ twice_text missing = refl
 twice_text (text t) = refl
 twice_text (number n) = refl
 
-none_text : (x : Cell) → is_none (text_of x) ≡ is_none x
+pub none_text : (x : Cell) → is_none (text_of x) ≡ is_none x
 none_text missing = refl
 none_text (text t) = refl
 none_text (number n) = refl
+
+pub none_is_missing : (x : Cell) → is_none x ≡ true → x ≡ missing
+none_is_missing missing e = refl
+none_is_missing (text t) e = absurd (true≢false (sym e))
+none_is_missing (number n) e = absurd (true≢false (sym e))
+
+-- a value is missing in the copy where it is in the user's table
+pub copied_none : (s : Schema) (cell : Cells) (k : ℕ) (v : List ℕ) → is_none (copied_cell s cell k v) ≡ is_none (cell k v)
+copied_none s cell k v = by_type (is_plain_type (type_at s k))
+  where
+    by_type : (plain : Bool) → is_none (if plain then text_of (cell k v) else cell k v) ≡ is_none (cell k v)
+    by_type true = none_text (cell k v)
+    by_type false = refl
 
 -- an integer that may be missing
 abbrev pub IsIntegerOrMissing : Cell → Type 0
@@ -158,23 +169,20 @@ module _ (cast : Cast) (s : Schema) (cell : Cells) (r : Relation) (casts : Casts
       apart k low t u ht hu
       (sym (returned-known k t low ht) ∙ ap text_of same ∙ returned-known k u low hu)
 
+  -- a value is missing in a table of the design where it is in the user's table
+  pub entered-none : (k : ℕ) (t : Tuple) → k < width_of s → Contains r t
+      → is_none (entered s cast cell k (value_at t k)) ≡ is_none (cell k (value_at t k))
+  entered-none k t low h = elim (cases_Bool (is_integer (type_at s k))) [
+    | inl whole ↦
+        ap is_none (integer_is k t low h whole) ∙ sym (none_text (cast_at k t low h whole).to)
+        ∙ ap is_none (cast_at k t low h whole).back ∙ copied_none s cell k (value_at t k)
+    | inr other ↦ ap is_none (plain_is k t other) ∙ copied_none s cell k (value_at t k)
+  ]
+
   -- no value is missing that may not be
   pub entered-there : NoneMissing s cell r → (k : ℕ) (t : Tuple) → k < width_of s → nullable_of s k ≡ false → Contains r t
       → is_none (entered s cast cell k (value_at t k)) ≡ false
-  entered-there none k t low required h =
-      let there : is_none (cell k (value_at t k)) ≡ false = none k (grind (arith, nat_tests, low, required)) t h in
-      let copied_there : is_none (copied_cell s cell k (value_at t k)) ≡ false = by_type (is_plain_type (type_at s k)) there in
-      elim (cases_Bool (is_integer (type_at s k))) [
-        | inl whole ↦
-            ap is_none (integer_is k t low h whole) ∙ sym (none_text (cast_at k t low h whole).to)
-            ∙ ap is_none (cast_at k t low h whole).back ∙ copied_there
-        | inr other ↦ ap is_none (plain_is k t other) ∙ copied_there
-      ]
-    where
-      by_type : (b : Bool) → is_none (cell k (value_at t k)) ≡ false
-          → is_none (if b then text_of (cell k (value_at t k)) else cell k (value_at t k)) ≡ false
-      by_type true there = none_text (cell k (value_at t k)) ∙ there
-      by_type false there = there
+  entered-there none k t low required h = entered-none k t low h ∙ none k (grind (arith, nat_tests, low, required)) t h
 
   -- and two can be compared
   pub entered-compared : AreComparable s cell r → (k : ℕ) (t u : Tuple) → k < width_of s → Contains r t → Contains r u

@@ -1,43 +1,39 @@
 -- The tables that hold the projections of a relation break nothing that is stated of them.
-use Rattle.std.proofs.Common.{◌≡◌, ◌<◌, ◌⊎◌, ℕ, Bool, true, false, ◌||◌, List, [], ◌∷◌, ◌++◌, length, get_or, map, Some, None, Option, refl, sym, ap, subst, ◌∙◌, inl, inr, ⊎_elim, arith}
+use Rattle.std.proofs.Common.{◌≡◌, ◌<◌, ℕ, Bool, true, false, ◌||◌, List, [], ◌∷◌, length, map, Some, refl, sym, ap, ◌∙◌, inl, inr, ⊎_elim, arith}
 use Rattle.std.proofs.lemmas.Bool.{cases_Bool, true≢false}
 use Rattle.std.proofs.lemmas.Bool.Decides.{nat_tests}
-use Rattle.std.proofs.lemmas.List.Elements.{Contains-append_cases, Contains-get_or}
 use Rattle.std.proofs.lemmas.Map.Made.{AllPairs-from_IsDistinct, IsDistinct-from_count}
 use Rattle.std.proofs.lemmas.Option.{get_or_from_slice_get, slice_get_within}
 use Rattle.std.specs.List.{list_any}
-use Rattle.std.specs.Prelude.{Contains, AllPairs, if◌then◌else◌, slice_get, option_map, option_and_then}
+use Rattle.std.specs.Prelude.{Contains, slice_get, option_map, option_and_then}
 use Rattle.std.specs.Set.{unique_keys}
 use Rattle.attr_sets.specs.Attributes.{Attributes, IsSubset}
-use Rattle.attr_sets.specs.Sets.{attributes}
 use Rattle.sql_check_laws.proofs.CountLemmas.{equivalence, unique-unique}
 use Rattle.ddl_text.specs.KeysAndReferences.{KeyHolds}
 use Rattle.schema_model.specs.declared.column_type.ColumnType.TheVariants.{Integer}
 use Rattle.schema_model.specs.Schemas.{Schema}
 use Rattle.dep_model.specs.Projections.{members_below, project_tuple, ordered_projection}
-use Rattle.schema_model.specs.Schemas.{width_of, universe_of, nullable_of}
+use Rattle.schema_model.specs.Schemas.{width_of, universe_of}
 use Rattle.dep_model.specs.Tuples.{Tuple, Relation, value_at}
 use Rattle.dep_model.proofs.DistinctLemmas.{ordered_projection-same}
 use Rattle.dep_model.proofs.JoinLemmas.{agree-from_projections}
 use Rattle.dep_model.proofs.ListLemmas.{Contains-head, Contains-later, Contains-cases, Contains-map, cons_parts}
 use Rattle.dep_model.proofs.SchemeLemmas.{AgreeIn-from}
-use Rattle.sql_syntax.specs.Syntax.{ColumnName, attribute}
+use Rattle.sql_syntax.specs.Syntax.{attribute}
 use Rattle.sql_check.specs.Columns.{name_at, type_at}
 use Rattle.sql_evaluation.specs.Cells.{Cell, same_row, is_none}
-use Rattle.sql_evaluation.specs.Values.{each, bytes_of, named_cell}
-use Rattle.sql_evaluation.specs.Evaluation.{Rows}
+use Rattle.sql_evaluation.specs.Values.{each, named_cell}
 use Rattle.sql_evaluation.specs.Running.{Cast}
 use Rattle.sql_evaluation.specs.Rules.{cells_in, is_any_missing, HasMissing, HasRepeated, HasUnmatched}
 use Rattle.sql_check_laws.specs.HeldRelations.{compared_cell, AreApart, CastsIntegers}
-use Rattle.sql_check_laws.specs.CheckedRules.{NoneMissing, AreIntegers}
+use Rattle.sql_check_laws.specs.CheckedRules.{AreIntegers}
 use Rattle.sql_check_laws.proofs.CellLemmas.{same_row-decides, names_on_apart, member_of, is_member_of}
 use Rattle.sql_check_laws.proofs.ColumnLemmas.{named_cell-member}
 use Rattle.sql_check_laws.proofs.EachLemmas.{each-known, each-map, map-known}
-use Rattle.sql_check_laws.proofs.RowLemmas.{none_is_not_some, some_is}
+use Rattle.sql_check_laws.proofs.RowLemmas.{some_is}
 use Rattle.sql_check_laws.proofs.ValuesLemmas.{names_on}
-use Rattle.sql_migrate.specs.Moving.{attribute_names}
-use Rattle.sql_migrate_laws.specs.Ending.{AreComparable}
-use Rattle.sql_migrate_laws.proofs.EnteredLemmas.{Cells, entered, entered-apart, entered-there}
+use Rattle.sql_syntax.specs.Names.{attribute_names}
+use Rattle.sql_migrate_laws.proofs.EnteredLemmas.{Cells, entered, entered-apart, entered-none}
 use Rattle.sql_migrate_laws.proofs.JoinedLemmas.{row_at, projected, row-projected, projected-row}
 use Rattle.sql_migrate_laws.proofs.NameLemmas.{attribute_names-are}
 
@@ -48,6 +44,15 @@ none_missing_of f (k ∷ ks) there =
     let here = there k (Contains-head k ks) in
     let later : list_any is_none (map f ks) ≡ false = none_missing_of f ks (λ m h. there m (Contains-later k ks m h)) in
     grind (arith, here, later)
+
+none_missing_from : (f : ℕ → Cell) (ks : List ℕ) → is_any_missing (map f ks) ≡ false → (k : ℕ) → Contains ks k → is_none (f k) ≡ false
+none_missing_from f [] none k h = absurd (omega (arith, h.1))
+none_missing_from f (m ∷ ks) none k h = elim (cases_Bool (is_none (f m))) [
+  | inl missing ↦ absurd (true≢false (sym (ap (λ (b : Bool). b || list_any is_none (map f ks)) missing) ∙ none))
+  | inr there ↦
+      let later : list_any is_none (map f ks) ≡ false = sym (ap (λ (b : Bool). b || list_any is_none (map f ks)) there) ∙ none in
+      ⊎_elim (λ (is : k ≡ m). ap (λ (i : ℕ). is_none (f i)) is ∙ there) (λ after. none_missing_from f ks later k after) (Contains-cases m ks k h)
+]
 
 same_at : {X : Type 0} (f g : ℕ → X) (ks : List ℕ) (k : ℕ) → map f ks ≡ map g ks → Contains ks k → f k ≡ g k
 same_at f g [] k same h = absurd (omega (arith, h.1))
@@ -73,7 +78,7 @@ once_apart xs i j a b before at_i at_j same =
 
 module _ (cast : Cast) (s : Schema) (cell : Cells) (r : Relation) (casts : CastsIntegers cast)
     (integers : (k : ℕ) → k < width_of s → type_at s k ≡ Integer → AreIntegers (compared_cell cell) r k)
-    (apart : AreApart s cell r) (none : NoneMissing s cell r) (comparable : AreComparable s cell r) where
+    (apart : AreApart s cell r) where
   abbrev members : Attributes → List ℕ
   members x = members_below (width_of s) x
 
@@ -94,7 +99,7 @@ module _ (cast : Cast) (s : Schema) (cell : Cells) (r : Relation) (casts : Casts
       → cells_in (projected s cast cell r x) (attribute_names s y) row ≡ Some cells
       → (t : Tuple) × Contains r t × (row_at s cast cell (members x) (value_at t) ≡ row) × (row_at s cast cell (members y) (value_at t) ≡ cells)
   cells-of x y row cells within h e =
-      let t = row-projected cast s cell r casts integers apart none comparable x row h in (
+      let t = row-projected s cast cell r x row h in (
         t.0,
         t.1,
         t.2,
@@ -103,26 +108,27 @@ module _ (cast : Cast) (s : Schema) (cell : Cells) (r : Relation) (casts : Casts
       )
 
   -- ---- no value is missing that may not be
-  pub column-there : (x : Attributes) (k : ℕ) → k < width_of s → x k ≡ true → nullable_of s k ≡ false
+  pub column-there : (x : Attributes) (k : ℕ) → k < width_of s → x k ≡ true → ((t : Tuple) → Contains r t → is_none (cell k (value_at t k)) ≡ false)
       → HasMissing (projected s cast cell r x) (attribute (name_at s k) ∷ []) → ⊥
-  column-there x k low inside required has =
-      let t = row-projected cast s cell r casts integers apart none comparable x has.row has.member in
+  column-there x k low inside present has =
+      let t = row-projected s cast cell r x has.row has.member in
       let found = named_cell-member (name_at s) (λ (i : ℕ). entered s cast cell i (value_at t.0 i)) (members x) k (names_on_apart s x) (is_member_of (width_of s) x k low inside) in
       let cells : cells_in (projected s cast cell r x) (attribute (name_at s k) ∷ []) has.row ≡ Some (entered s cast cell k (value_at t.0 k) ∷ []) =
       ap (λ (row : List Cell). cells_in (projected s cast cell r x) (attribute (name_at s k) ∷ []) row) (sym t.2)
       ∙ ap (option_and_then (λ (y : Cell). option_map (λ (ys : List Cell). y ∷ ys) (Some []))) found in
       let are = some_is has.cells (entered s cast cell k (value_at t.0 k) ∷ []) (sym has.are ∙ cells) in
-      let there = entered-there cast s cell r casts integers none k t.0 low required t.1 in
+      let there = entered-none cast s cell r casts integers k t.0 low t.1 ∙ present t.0 t.1 in
       let missing : is_none (entered s cast cell k (value_at t.0 k)) || false ≡ true = ap is_any_missing (sym are) ∙ has.missing in
       absurd (grind (arith, missing, there))
 
-  pub key-there : (x key : Attributes) → IsSubset x (universe_of s) → IsSubset key x → ((k : ℕ) → key k ≡ true → nullable_of s k ≡ false)
+  pub key-there : (x key : Attributes) → IsSubset key x
+      → ((k : ℕ) → k < width_of s → key k ≡ true → (t : Tuple) → Contains r t → is_none (cell k (value_at t k)) ≡ false)
       → HasMissing (projected s cast cell r x) (attribute_names s key) → ⊥
-  key-there x key low within required has =
+  key-there x key within present has =
       let t = cells-of x key has.row has.cells within has.member has.are in
       let there = none_missing_of (λ k. entered s cast cell k (value_at t.0 k)) (members key) (λ k h.
       let m = member_of (width_of s) key k h in
-      entered-there cast s cell r casts integers none k t.0 m.0 (required k m.1) t.1) in
+      entered-none cast s cell r casts integers k t.0 m.0 t.1 ∙ present k m.0 m.1 t.0 t.1) in
       true≢false (sym has.missing ∙ ap is_any_missing (sym t.3) ∙ there)
 
   -- ---- keys hold
@@ -149,10 +155,14 @@ module _ (cast : Cast) (s : Schema) (cell : Cells) (r : Relation) (casts : Casts
       ∙ u.2)
 
   -- ---- references hold
-  pub key-matched : (x y key : Attributes) → IsSubset key x → IsSubset key y
-      → HasUnmatched (projected s cast cell r x) (attribute_names s key) (Some (projected s cast cell r y)) → ⊥
-  key-matched x y key in_x in_y has =
+  -- of a tuple that misses none of the key the other table has a row
+  pub key-matched : (other : Relation) (x y key : Attributes) → IsSubset key x → IsSubset key y
+      → ((t : Tuple) → Contains r t → ((k : ℕ) → k < width_of s → key k ≡ true → is_none (cell k (value_at t k)) ≡ false) → Contains other t)
+      → HasUnmatched (projected s cast cell r x) (attribute_names s key) (Some (projected s cast cell other y)) → ⊥
+  key-matched other x y key in_x in_y there has =
       let t = cells-of x key has.row has.cells in_x has.member has.are in
-      has.none_there (projected s cast cell r y) refl (row_at s cast cell (members y) (value_at t.0))
-      (projected-row cast s cell r casts integers apart none comparable y t.0 t.1)
+      let present = none_missing_from (λ k. entered s cast cell k (value_at t.0 k)) (members key) (ap is_any_missing t.3 ∙ has.none_missing) in
+      has.none_there (projected s cast cell other y) refl (row_at s cast cell (members y) (value_at t.0))
+      (projected-row s cast cell other y t.0 (there t.0 t.1 (λ k low inside.
+      sym (entered-none cast s cell r casts integers k t.0 low t.1) ∙ present k (is_member_of (width_of s) key k low inside))))
       (cells-known y key t.0 in_y ∙ ap (λ (cells : List Cell). Some cells) t.3)

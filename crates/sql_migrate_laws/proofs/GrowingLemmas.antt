@@ -3,10 +3,10 @@ use Rattle.std.proofs.Common.{◌≡◌, ℕ, List, [], ◌∷◌, map, Some, No
 use Rattle.std.specs.Prelude.{option_and_then}
 use Rattle.schema_model.specs.Schemas.{Schema}
 use Rattle.dep_model.specs.Tuples.{Relation}
-use Rattle.sql_syntax.specs.Syntax.{Link, by_columns, crosswise, Query, stored, select, union_all, except, joined, all_columns, one_row}
+use Rattle.sql_syntax.specs.Syntax.{Link, by_columns, left_by_columns, crosswise, Query, stored, select, union_all, except, joined, all_columns, one_row}
 use Rattle.sql_evaluation.specs.Cells.{Cell}
 use Rattle.sql_evaluation.specs.Values.{bytes_of}
-use Rattle.sql_evaluation.specs.Evaluation.{Rows, Engine, selected, appended, excepted, joined_by, columns_of, linked, all_linked, evaluate}
+use Rattle.sql_evaluation.specs.Evaluation.{Rows, Engine, selected, appended, excepted, joined_by, left_joined_by, columns_of, linked, all_linked, evaluate}
 use Rattle.sql_evaluation.specs.Running.{Held, table, view, State, Cast, rows_of_table, rows_found, engine_at}
 use Rattle.sql_check_laws.specs.HeldRelations.{Holds}
 use Rattle.sql_check_laws.proofs.RowLemmas.{none_is_not_some}
@@ -28,6 +28,9 @@ module _ (cast : Cast) (a b : Tables) (within : Within a b) where
   linked-still x (by_columns name columns) y e =
       let found = bind_some (joined_by (map bytes_of columns) x) (a name) y e in
       ap (option_and_then (joined_by (map bytes_of columns) x)) (within name found.0 found.1) ∙ found.2
+  linked-still x (left_by_columns name columns) y e =
+      let found = bind_some (left_joined_by (map bytes_of columns) x) (a name) y e in
+      ap (option_and_then (left_joined_by (map bytes_of columns) x)) (within name found.0 found.1) ∙ found.2
   linked-still x (crosswise name) y e =
       let found = bind_some (joined_by [] x) (a name) y e in
       ap (option_and_then (joined_by [] x)) (within name found.0 found.1) ∙ found.2

@@ -1,9 +1,14 @@
 pub mod OrderLemmas
 pub mod EndedViewLemmas
+pub mod JoinedViewLemmas
+pub mod LookedUpLemmas
 pub mod NameLemmas
 pub mod StageLemmas
 pub mod EnteredLemmas
+pub mod CompleteLemmas
+pub mod PositionLemmas
 pub mod JoinedLemmas
+pub mod AloneLemmas
 pub mod BesideLemmas
 pub mod FullLemmas
 pub mod MakingLemmas

@@ -1,46 +1,45 @@
 -- The statements that make and fill the tables of a design, none of which is refused.
-use Rattle.std.proofs.Common.{◌≡◌, ◌<◌, ◌≤◌, ◌+◌, ℕ, suc, Bool, true, false, not, List, [], ◌∷◌, ◌++◌, length, get_or, map, Some, None, Option, refl, sym, ap, subst, ◌∙◌, inl, inr, ⊎_elim, arith, append-nil}
-use Rattle.std.proofs.lemmas.Bool.{cases_Bool, cases_eq, eq-eqb}
+use Rattle.std.proofs.Common.{◌≡◌, ◌≤◌, ◌+◌, ℕ, suc, Bool, true, false, not, List, [], ◌∷◌, ◌++◌, length, get_or, map, Some, None, Option, refl, sym, ap, subst, ◌∙◌, inl, inr, arith, append-nil}
+use Rattle.std.proofs.lemmas.Bool.{cases_eq, eq-eqb}
 use Rattle.std.proofs.lemmas.List.{length-map}
 use Rattle.std.proofs.lemmas.Option.{slice_get_within}
 use Rattle.std.specs.Cmp.Lexicographic.{pointwise, pointwise_decides}
 use Rattle.std.specs.Prelude.{Contains, if◌then◌else◌, ◌==◌, slice_get, is_some, option_map, option_and_then, codes}
-use Rattle.std.specs.Set.{unique_keys}
 use Rattle.std.specs.Str.{bytes_eq}
-use Rattle.attr_sets.specs.Attributes.{Attributes}
+use Rattle.attr_sets.specs.Attributes.{Attributes, difference}
 use Rattle.attr_sets.specs.Sets.{attributes}
 use Rattle.schema_model.specs.Schemas.{Schema}
 use Rattle.dep_model.specs.Projections.{members_below}
-use Rattle.schema_model.specs.Schemas.{width_of, universe_of}
+use Rattle.schema_model.specs.Schemas.{width_of, nullable_of}
 use Rattle.dep_model.specs.Tuples.{Tuple, Relation, value_at}
 use Rattle.ddl_text.specs.declared.table.TableDesign.{TableDesign}
 use Rattle.ddl_text.specs.Ddl.{is_empty}
 use Rattle.ddl_text.specs.Designs.{known_keys}
 use Rattle.sql_syntax.specs.Names.{quoted_name}
-use Rattle.sql_syntax.specs.Syntax.{ColumnName, Item, each_row}
 use Rattle.sql_syntax.specs.Statements.{Element, column_definition, primary_key, unique_key, foreign_key, Statement, remark, create_table}
 use Rattle.sql_check.specs.Columns.{name_at}
-use Rattle.sql_evaluation.specs.Cells.{Cell, same_row}
-use Rattle.sql_evaluation.specs.Values.{each, bytes_of, look_at, View}
-use Rattle.sql_evaluation.specs.Evaluation.{Rows, row_view, item_name, item_value, with_items, selected, evaluate}
+use Rattle.sql_evaluation.specs.Values.{each, bytes_of}
+use Rattle.sql_evaluation.specs.Evaluation.{item_name, item_value, with_items, selected, evaluate}
 use Rattle.sql_evaluation.specs.Running.{Held, table, State, Cast, Fails, rows_found, engine_at, with_name, made, with_rows, both_rows, filled, inserted, has_columns, column_names, tried, done}
 use Rattle.sql_check_laws.proofs.ColumnLemmas.{bytes_same}
-use Rattle.sql_check_laws.proofs.EachLemmas.{each-known, map-map}
+use Rattle.sql_check_laws.proofs.EachLemmas.{each-known}
 use Rattle.sql_check_laws.proofs.RowLemmas.{none_is_not_some, some_is}
 use Rattle.sql_check_laws.proofs.CellLemmas.{member_of}
-use Rattle.sql_check_laws.proofs.ValuesLemmas.{cells_on, names_on}
+use Rattle.sql_check_laws.proofs.ValuesLemmas.{names_on}
 use Rattle.sql_migrate.specs.declared.moving.Move.TheVariants.{Entering}
-use Rattle.sql_migrate.specs.Moving.{attribute_names, moved_at, moved_on}
-use Rattle.sql_migrate.specs.Created.{column_made, columns_made, stated_keys, key_made, keys_made, reference_made, references_made, elements_made, said_of, remarks_made, table_made, tables_made}
-use Rattle.sql_migrate.specs.Script.{copy_name, fill, fill_query}
-use Rattle.sql_migrate_laws.specs.Moved.{entered_cell}
+use Rattle.sql_migrate.specs.Moving.{moved_at, moved_on}
+use Rattle.sql_syntax.specs.Names.{attribute_names}
+use Rattle.ddl_text.specs.Ddl.{column_made, columns_made, stated_keys, key_made, keys_made, reference_made, references_made, elements_made, said_of, remarks_made, table_made, tables_made}
+use Rattle.sql_migrate.specs.Script.{copy_name, complete_rows, fill, fill_query}
+use Rattle.sql_migrate_laws.specs.Moved.{complete_for, entered_cell}
 use Rattle.sql_migrate_laws.proofs.RunLemmas.{steps}
 use Rattle.sql_migrate_laws.proofs.StepLemmas.{at_name, past_name}
-use Rattle.sql_migrate_laws.proofs.RowLemmas.{copied, IsCopied, row_of_copy, entered-row, copy_selected}
+use Rattle.sql_migrate_laws.proofs.RowLemmas.{IsCopied, row_of_copy, entered-row}
+use Rattle.sql_migrate_laws.proofs.CompleteLemmas.{complete-within, fill-selected}
 use Rattle.sql_migrate_laws.specs.Ending.{IsSoundRun}
 use Rattle.sql_migrate_laws.proofs.EnteredLemmas.{Cells, entered, entered-known}
 use Rattle.sql_migrate_laws.proofs.FullLemmas.{got_member}
-use Rattle.sql_migrate_laws.proofs.JoinedLemmas.{with_names, row_at, projected}
+use Rattle.sql_migrate_laws.proofs.JoinedLemmas.{with_names, row_at}
 use Rattle.sql_migrate_laws.proofs.NameLemmas.{attribute_names-are}
 use Rattle.sql_migrate_laws.proofs.StageLemmas.{new_table, full_table, IsAt, apart_at, goes_on}
 
@@ -73,9 +72,9 @@ names_append (primary_key names ∷ xs) ys = names_append xs ys
 names_append (unique_key names ∷ xs) ys = names_append xs ys
 names_append (foreign_key names other ∷ xs) ys = names_append xs ys
 
-columns_named : (s : Schema) (ks : List ℕ) → column_names (map (column_made s) ks) ≡ map (name_at s) ks
-columns_named s [] = refl
-columns_named s (k ∷ ks) = ap (λ (rest : List (List ℕ)). name_at s k ∷ rest) (columns_named s ks)
+columns_named : (s : Schema) (nullable : Attributes) (ks : List ℕ) → column_names (map (column_made s nullable) ks) ≡ map (name_at s) ks
+columns_named s nullable [] = refl
+columns_named s nullable (k ∷ ks) = ap (λ (rest : List (List ℕ)). name_at s k ∷ rest) (columns_named s nullable ks)
 
 uniques_unnamed : (s : Schema) (keys : List Attributes) → column_names (map (λ key. unique_key (attribute_names s key)) keys) ≡ []
 uniques_unnamed s [] = refl
@@ -94,7 +93,7 @@ references_unnamed s (j ∷ js) of = references_unnamed s js of
 
 elements_named : (s : Schema) (designs : List TableDesign) (t : TableDesign) → column_names (elements_made s designs t) ≡ names_on s (attributes t.scheme)
 elements_named s designs t =
-    let columns = columns_made s (attributes t.scheme) in
+    let columns = columns_made s t in
     let stated = stated_keys s (known_keys t.other_keys) in
     let uniques = map (λ key. unique_key (attribute_names s key)) stated in
     names_append (columns ++ keys_made s t) (references_made s designs t)
@@ -105,7 +104,7 @@ elements_named s designs t =
     (names_append (key_made s (attributes t.key)) uniques
     ∙ ap (λ (front : List (List ℕ)). front ++ column_names uniques) (key_unnamed s (attributes t.key)) ∙ uniques_unnamed s stated)
     ∙ append-nil (column_names columns)
-    ∙ columns_named s (members_below (width_of s) (attributes t.scheme))
+    ∙ columns_named s (difference (nullable_of s) (attributes t.key)) (members_below (width_of s) (attributes t.scheme))
 
 -- ---- the rest of a design
 -- these are the tables from position k on
@@ -188,18 +187,20 @@ module _ (fails : Fails) (cast : Cast) (s : Schema) (name : List ℕ) (cell : Ce
       )
 
   -- ---- tables that are filled
-  filled-known : (x : Attributes) (z : State) → IsCopied z s cell r
-      → evaluate (engine_at cast z) (fill_query s x) ≡ Some (with_items true (moved_on s Entering x) (map (λ t. row_at s cast cell (members_below (width_of s) x) (value_at t)) r))
+  filled-known : (d : TableDesign) (z : State) → IsCopied z s cell r
+      → evaluate (engine_at cast z) (fill_query s d)
+      ≡ Some (with_items true (moved_on s Entering (attributes d.scheme)) (map (λ t. row_at s cast cell (members_below (width_of s) (attributes d.scheme)) (value_at t)) (complete_for s cell d r)))
   unfolding fill_query
-  filled-known x z is =
+  filled-known d z is =
+      let x = attributes d.scheme in
       let items = moved_on s Entering x in
-      ap (λ (held : Option Held). option_and_then (selected cast true items (codes "o") each_row) (rows_found cast z held)) is
+      ap (λ (held : Option Held). option_and_then (selected cast true items (codes "o") (complete_rows s (attributes d.key))) (rows_found cast z held)) is
+      ∙ fill-selected cast s cell d r items
       ∙ ap (option_map (with_items true items))
-      (copy_selected s cast cell r items
-      ∙ each-known (λ (t : Tuple). each (item_value cast (row_of_copy s cell t)) items) (λ (t : Tuple). row_at s cast cell (members_below (width_of s) x) (value_at t)) r
+      (each-known (λ (t : Tuple). each (item_value cast (row_of_copy s cell t)) items) (λ (t : Tuple). row_at s cast cell (members_below (width_of s) x) (value_at t)) (complete_for s cell d r)
       (λ t h. entered-row s cast cell x t
       ∙ each-known (λ (k : ℕ). entered_cell s cast cell k (value_at t k)) (λ (k : ℕ). entered s cast cell k (value_at t k)) (members_below (width_of s) x)
-      (λ k m. entered-known cast s cell r sound.casts sound.integers k t (member_of (width_of s) x k m).0 h)))
+      (λ k m. entered-known cast s cell r sound.casts sound.integers k t (member_of (width_of s) x k m).0 (complete-within s cell d r t h))))
 
   into-known : (t : TableDesign) (z : State) → IsCopied z s cell r → z (quoted_name t.name) ≡ Some (table false (new_table s t))
       → done cast (fill s t) z ≡ Some (with_name (quoted_name t.name) (Some (table false (full_table s cast cell r t))) z)
@@ -208,8 +209,8 @@ module _ (fails : Fails) (cast : Cast) (s : Schema) (name : List ℕ) (cell : Ce
       let own = quoted_name t.name in
       let x = attributes t.scheme in
       let items = moved_on s Entering x in
-      let rows = with_items true items (map (λ u. row_at s cast cell (members_below (width_of s) x) (value_at u)) r) in
-      let go = option_and_then (inserted own z) (evaluate (engine_at cast z) (fill_query s x)) in
+      let rows = with_items true items (map (λ u. row_at s cast cell (members_below (width_of s) x) (value_at u)) (complete_for s cell t r)) in
+      let go = option_and_then (inserted own z) (evaluate (engine_at cast z) (fill_query s t)) in
       let full = full_table s cast cell r t in
       let fits : has_columns (map bytes_of (attribute_names s x)) (z own) ≡ true =
       ap (has_columns (map bytes_of (attribute_names s x))) new
@@ -222,7 +223,7 @@ module _ (fails : Fails) (cast : Cast) (s : Schema) (name : List ℕ) (cell : Ce
       let put : with_rows false (new_table s t) rows ≡ Some (table false full) =
       ap (λ (b : Bool). if not b then None else Some (table false (both_rows (new_table s t) rows))) long in
       ap (λ (b : Bool). if b then go else None) fits
-      ∙ ap (option_and_then (inserted own z)) (filled-known x z is)
+      ∙ ap (option_and_then (inserted own z)) (filled-known t z is)
       ∙ ap (λ (held : Option Held). option_map (λ h. with_name own (Some h) z) (filled held rows)) new
       ∙ ap (option_map (λ (h : Held). with_name own (Some h) z)) put
 

@@ -1,12 +1,12 @@
 -- After a run without an error the tables hold the projections, and the view the relation; and all else is as it was.
-use Rattle.std.proofs.Common.{◌≡◌, ℕ, Bool, true, false, List, [], ◌∷◌, ◌++◌, length, map, Some, None, Option, refl, sym, ap, subst, ◌∙◌, inl, inr, arith}
+use Rattle.std.proofs.Common.{◌≡◌, ℕ, true, false, List, [], ◌∷◌, ◌++◌, length, map, Some, None, Option, sym, ap, subst, ◌∙◌, inl, inr, arith}
 use Rattle.std.proofs.lemmas.Bool.{cases_Bool, true≢false}
 use Rattle.std.specs.Prelude.{Contains, if◌then◌else◌, option_and_then, codes, is_some}
 use Rattle.std.specs.Str.{bytes_eq}
 use Rattle.attr_sets.specs.Sets.{attributes}
 use Rattle.schema_model.specs.Schemas.{Schema}
 use Rattle.schema_model.specs.Schemas.{width_of, universe_of}
-use Rattle.dep_model.specs.Tuples.{Tuple, Relation}
+use Rattle.dep_model.specs.Tuples.{Relation}
 use Rattle.dep_model.proofs.ListLemmas.{Contains-map, map-member}
 use Rattle.ddl_text.specs.declared.table.TableDesign.{TableDesign}
 use Rattle.sql_syntax.specs.Names.{quoted_name}
@@ -19,13 +19,14 @@ use Rattle.sql_check_laws.specs.HeldRelations.{Holds}
 use Rattle.sql_check_laws.proofs.ColumnLemmas.{bytes_same}
 use Rattle.sql_check_laws.proofs.RowLemmas.{none_is_not_some, some_is}
 use Rattle.sql_check_laws.proofs.ValuesLemmas.{cells_on}
-use Rattle.sql_migrate.specs.Created.{tables_made}
-use Rattle.sql_migrate.specs.Script.{copy_name, view_name, test_name, copy_query, fill, view_query, width_query, table_rows, viewed_rows, count_of, lacked, gained, testing, work, migration}
-use Rattle.sql_migrate_laws.specs.Moved.{AreProjection, HoldsProjection, ViewHolds, HasMoved, LeavesOthers}
+use Rattle.ddl_text.specs.Ddl.{tables_made}
+use Rattle.sql_migrate.specs.Script.{copy_name, view_name, test_name, copy_query, fill, view_query, width_query, table_rows, viewed_rows, count_of, lacked, gained, testing, migration}
+use Rattle.sql_migrate_laws.specs.Moved.{complete_for, AreProjection, HoldsProjection, HasMoved, LeavesOthers}
 use Rattle.sql_migrate_laws.proofs.RunLemmas.{steps, work_done}
-use Rattle.sql_migrate_laws.proofs.StepLemmas.{bind_some, when_some, apart, at_name, past_name, was_done, was_made, steps_after, was_inserted, checked, Keeps, AreCreated, AreFilled, HasCopy, tables_created, tables_filled}
+use Rattle.sql_migrate_laws.proofs.StepLemmas.{bind_some, when_some, apart, at_name, past_name, was_done, was_made, steps_after, was_inserted, checked, Keeps, HasCopy, tables_created, tables_filled}
 use Rattle.sql_migrate_laws.proofs.GrowingLemmas.{still-known, still-holds, was_free, keeps_past}
-use Rattle.sql_migrate_laws.proofs.RowLemmas.{copied, IsCopied, copy-known, projection-known, table-known, width-known, none_counted, nothing_beyond}
+use Rattle.sql_migrate_laws.proofs.RowLemmas.{copied, IsCopied, copy-known, table-known, width-known, none_counted, nothing_beyond}
+use Rattle.sql_migrate_laws.proofs.CompleteLemmas.{projection-known}
 use Rattle.sql_migrate_laws.proofs.ViewLemmas.{viewed-same}
 
 abbrev Cells : Type 0
@@ -171,8 +172,8 @@ tables_moved fails cast s cell r designs start first second third is create fill
     let away : (t : TableDesign) → Contains designs t → copy_name ≡ quoted_name t.name → ⊥ =
     λ t h. apart first copy_name (quoted_name t.name) (table false (copied s cell r)) is.copy (made.free t h) in
     let has : HasCopy second copy_name (copied s cell r) designs = record { there = made.keeps copy_name (table false (copied s cell r)) is.copy; apart = away } in
-    let filled = tables_filled fails cast s copy_name (copied s cell r) (λ t new. AreProjection s cast cell (attributes t.scheme) r new.rows)
-    (λ z t new there found. projection-known s cast cell r z (attributes t.scheme) new there found) designs second third fills has made.apart made.new in
+    let filled = tables_filled fails cast s copy_name (copied s cell r) (λ t new. AreProjection s cast cell (attributes t.scheme) (complete_for s cell t r) new.rows)
+    (λ z t new there found. projection-known s cast cell r z t new there found) designs second third fills has made.apart made.new in
     let keeps_first = keeps_past start start first copy_name (λ name held there. there) is.free is.others in
     record {
       copy = filled.others copy_name away ∙ has.there;

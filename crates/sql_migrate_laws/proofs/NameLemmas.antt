@@ -8,7 +8,7 @@ use Rattle.schema_printer.proofs.MemberLemmas.{members_named}
 use Rattle.sql_syntax.specs.Syntax.{attribute}
 use Rattle.sql_evaluation.specs.Values.{bytes_of}
 use Rattle.sql_check_laws.proofs.ValuesLemmas.{names_on}
-use Rattle.sql_migrate.specs.Moving.{attribute_names}
+use Rattle.sql_syntax.specs.Names.{attribute_names}
 
 plain : (names : List (List ℕ)) → map bytes_of (map attribute names) ≡ names
 plain [] = refl

@@ -1,30 +1,21 @@
 -- The order of the view has the tables of the design, each as often.
-use Rattle.std.proofs.Common.{◌≡◌, ℕ, zero, suc, Bool, true, false, not, List, [], ◌∷◌, ◌++◌, length, refl, sym, subst, ◌∙◌, arith, append_assoc, append-nil}
-use Rattle.std.proofs.lemmas.List.Sorted.{IsPermutation-refl, IsPermutation-trans, IsPermutation-cons, IsPermutation-middle, IsPermutation-reverse, length_permutation}
+use Rattle.std.proofs.Common.{◌≡◌, ℕ, zero, suc, not, List, [], ◌∷◌, length, sym, arith}
+use Rattle.std.proofs.lemmas.List.Sorted.{IsPermutation-refl, IsPermutation-trans, IsPermutation-cons, IsPermutation-reverse, length_permutation}
 use Rattle.std.specs.List.Sorted.{IsPermutation}
-use Rattle.std.specs.Prelude.{if◌then◌else◌, reverse}
+use Rattle.std.specs.Prelude.{reverse}
 use Rattle.attr_sets.specs.Attributes.{Attributes, none, union}
 use Rattle.attr_sets.specs.Sets.{attributes, is_disjoint}
 use Rattle.dep_model.specs.JoinOrders.{put_first, of_first, joined_next}
+use Rattle.optional_tables.proofs.OrderLemmas.{put_moved}
 use Rattle.sql_migrate.specs.declared.joining.JoinedTable.{JoinedTable}
 use Rattle.sql_migrate.specs.Script.{scheme_of_joined, view_order}
-
-put_moved : (test : JoinedTable → Bool) (passed xs : List JoinedTable) → IsPermutation (passed ++ xs) (put_first test passed xs)
-put_moved test passed [] = subst (λ (ys : List JoinedTable). IsPermutation ys passed) (sym (append-nil passed)) (IsPermutation-refl passed)
-put_moved test passed (x ∷ xs) = by_test (test x) (put_moved test (passed ++ x ∷ []) xs)
-  where
-    by_test : (b : Bool) → IsPermutation ((passed ++ x ∷ []) ++ xs) (put_first test (passed ++ x ∷ []) xs)
-        → IsPermutation (passed ++ x ∷ xs) (if b then x ∷ (passed ++ xs) else put_first test (passed ++ x ∷ []) xs)
-    by_test true later = IsPermutation-middle passed x xs
-    by_test false later =
-        subst (λ (ys : List JoinedTable). IsPermutation ys (put_first test (passed ++ x ∷ []) xs)) (append_assoc passed (x ∷ []) xs) later
 
 next_moved : (n : ℕ) (seen : Attributes) (left : List JoinedTable) → n ≡ length left → IsPermutation left (joined_next scheme_of_joined n seen left)
 next_moved zero seen [] e = IsPermutation-refl []
 next_moved zero seen (x ∷ xs) e = absurd (omega (arith, e))
 next_moved (suc n) seen left e =
     first_of (put_first (λ table. not (is_disjoint seen (attributes table.scheme))) [] left)
-    (put_moved (λ table. not (is_disjoint seen (attributes table.scheme))) [] left) (next_moved n)
+    (put_moved (λ (table : JoinedTable). not (is_disjoint seen (attributes table.scheme))) [] left) (next_moved n)
   where
     first_of : (found : List JoinedTable) → IsPermutation left found
         → ((with : Attributes) (rest : List JoinedTable) → n ≡ length rest → IsPermutation rest (joined_next scheme_of_joined n with rest))

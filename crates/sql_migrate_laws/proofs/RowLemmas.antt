@@ -1,40 +1,37 @@
 -- The rows that the queries of the script give over the user's table and its copy.
-use Rattle.std.proofs.Common.{◌≡◌, ◌<◌, ℕ, Bool, true, false, not, List, [], ◌∷◌, ◌++◌, length, map, filter, replicate, Some, None, Option, refl, sym, ap, subst, ◌∙◌, inl, inr, ⊎_elim, arith}
-use Rattle.std.proofs.lemmas.Bool.{cases_Bool, true≢false, eqb-true}
+use Rattle.std.proofs.Common.{◌≡◌, ℕ, Bool, true, false, not, List, [], ◌∷◌, ◌++◌, length, map, filter, replicate, Some, None, Option, refl, sym, ap, subst, ◌∙◌, inl, inr, ⊎_elim, arith}
+use Rattle.std.proofs.lemmas.Bool.{cases_Bool, eqb-true}
 use Rattle.std.proofs.lemmas.List.{length-map, length-replicate}
 use Rattle.std.proofs.lemmas.Bool.Decides.{Decides-int_eq, nat_tests}
 use Rattle.std.proofs.lemmas.Map.Views.{Contains-from_any}
 use Rattle.std.specs.Ordering.{int_eq}
 use Rattle.std.specs.Prelude.{ℤ, pos, negsuc, Contains, ◌&&◌, ◌==◌, if◌then◌else◌, option_map, option_and_then, codes}
-use Rattle.std.specs.List.{list_any}
-use Rattle.std.specs.Set.{unique_keys}
-use Rattle.attr_sets.specs.Attributes.{Attributes, below}
-use Rattle.attr_sets.specs.Sets.{attributes}
+use Rattle.attr_sets.specs.Attributes.{Attributes}
 use Rattle.schema_model.specs.Schemas.{Schema}
 use Rattle.schema_model.specs.Columns.{is_plain_type}
 use Rattle.dep_model.specs.Projections.{members_below}
 use Rattle.schema_model.specs.Schemas.{width_of, universe_of}
 use Rattle.dep_model.specs.Tuples.{Tuple, Relation, value_at}
-use Rattle.dep_model.proofs.ListLemmas.{Contains-head, Contains-later, Contains-cases, Contains-map, map-member}
+use Rattle.dep_model.proofs.ListLemmas.{Contains-head, Contains-later, Contains-cases}
 use Rattle.schema_printer.specs.Printing.{is_integer}
-use Rattle.sql_check_laws.proofs.CountLemmas.{in_unique, from_unique}
+use Rattle.sql_check_laws.proofs.CountLemmas.{in_unique}
 use Rattle.dep_model.proofs.DistinctLemmas.{filter-keeps}
-use Rattle.sql_syntax.specs.Syntax.{Scalar, number_zero, number_one, missing_value, count, equals, Item, unnamed, each_row, rows_where, groups_by, Query, stored, union_all, all_columns, one_row}
+use Rattle.sql_syntax.specs.Syntax.{Scalar, number_zero, number_one, missing_value, count, equals, unnamed, each_row, rows_where, groups_by, Query, stored, union_all, all_columns, one_row}
 use Rattle.sql_check.specs.Columns.{name_at, type_at, compared_at, compared_on}
 use Rattle.sql_evaluation.specs.Cells.{Cell, number, same_row, integer_of}
-use Rattle.sql_evaluation.specs.Values.{each, look_at, View, value, named_cell, bytes_of}
+use Rattle.sql_evaluation.specs.Values.{each, look_at, View, value, named_cell}
 use Rattle.sql_evaluation.specs.Evaluation.{Rows, Engine, row_view, item_name, item_value, with_items, selected, no_view, row_of_values, appended, is_among, without, excepted, evaluate}
-use Rattle.sql_evaluation.specs.Running.{Held, table, State, Cast, all_zeros, rows_found, engine_at}
+use Rattle.sql_evaluation.specs.Running.{table, State, Cast, all_zeros}
 use Rattle.sql_check_laws.specs.HeldRelations.{compared_cell, Holds}
-use Rattle.sql_check_laws.proofs.EachLemmas.{each-known, each-map, map-known, map-map}
+use Rattle.sql_check_laws.proofs.EachLemmas.{each-map, map-known, map-map}
 use Rattle.sql_check_laws.proofs.ColumnLemmas.{named_cell-member}
 use Rattle.sql_check_laws.proofs.CellLemmas.{same_row-decides, names_on_apart, member_of, is_member_of}
-use Rattle.sql_check_laws.proofs.RowLemmas.{none_is_not_some, some_is}
+use Rattle.sql_check_laws.proofs.RowLemmas.{some_is}
 use Rattle.sql_check_laws.proofs.ValuesLemmas.{cells_on, names_on, ShowsOf, item-known, rows-shown, rows-known}
 use Rattle.sql_migrate.specs.declared.moving.Move.TheVariants.{Entering}
 use Rattle.sql_migrate.specs.Moving.{copied_column, copied_at, copied_on, moved, moved_at, moved_on}
-use Rattle.sql_migrate.specs.Script.{copy_name, copy_query, fill_query, width_query, table_rows, count_of}
-use Rattle.sql_migrate_laws.specs.Moved.{copied_cell, entered_cell, AreProjection}
+use Rattle.sql_migrate.specs.Script.{copy_name, copy_query, width_query, table_rows, count_of}
+use Rattle.sql_migrate_laws.specs.Moved.{copied_cell, entered_cell}
 use Rattle.sql_migrate_laws.proofs.StepLemmas.{bind_some, map_some, when_some}
 
 abbrev Cells : Type 0
@@ -115,7 +112,7 @@ cell-known s cell t k h =
     named_cell-member (name_at s) (λ (j : ℕ). copied_cell s cell j (value_at t j)) (members_below (width_of s) (universe_of s)) k
     (names_on_apart s (universe_of s)) h
 
-in_universe : (s : Schema) (x : Attributes) (k : ℕ) → Contains (members_below (width_of s) x) k → Contains (members_below (width_of s) (universe_of s)) k
+pub in_universe : (s : Schema) (x : Attributes) (k : ℕ) → Contains (members_below (width_of s) x) k → Contains (members_below (width_of s) (universe_of s)) k
 in_universe s x k h =
     let m = member_of (width_of s) x k h in
     is_member_of (width_of s) (universe_of s) k m.0 (grind (arith, nat_tests, m))
@@ -139,48 +136,15 @@ entered-row s cast cell x t =
     (members_below (width_of s) x) (λ k h. entered-known s cast cell t k (in_universe s x k h))
 
 -- the rows of the copy, as they are looked at
-copy_views : (s : Schema) (cell : Cells) (r : Relation)
+pub copy_views : (s : Schema) (cell : Cells) (r : Relation)
     → map row_view (map (look_at (codes "o") (names_on s (universe_of s))) (map (copied_on_set s cell (universe_of s)) r)) ≡ map (row_of_copy s cell) r
 copy_views s cell r =
     ap (map row_view) (map-map (look_at (codes "o") (names_on s (universe_of s))) (copied_on_set s cell (universe_of s)) r)
     ∙ map-map row_view (λ (t : Tuple). look_at (codes "o") (names_on s (universe_of s)) (copied_on_set s cell (universe_of s) t)) r
 
--- what is selected of the copy
-pub copy_selected : (s : Schema) (cast : Cast) (cell : Cells) (r : Relation) (items : List Item)
-    → each (λ v. each (item_value cast v) items) (map row_view (map (look_at (codes "o") (names_on s (universe_of s))) (map (copied_on_set s cell (universe_of s)) r)))
-    ≡ each (λ t. each (item_value cast (row_of_copy s cell t)) items) r
-copy_selected s cast cell r items =
-    ap (each (λ (v : View). each (item_value cast v) items)) (copy_views s cell r)
-    ∙ each-map (λ (v : View). each (item_value cast v) items) (row_of_copy s cell) r
-
 -- the copy is in a state
 abbrev pub IsCopied : State → Schema → Cells → Relation → Type 0
 IsCopied state s cell r = state copy_name ≡ Some (table false (copied s cell r))
-
-pub projection-known : (s : Schema) (cast : Cast) (cell : Cells) (r : Relation) (state : State) (x : Attributes) (new : Rows) → IsCopied state s cell r
-    → evaluate (engine_at cast state) (fill_query s x) ≡ Some new → AreProjection s cast cell x r new.rows
-unfolding fill_query
-projection-known s cast cell r state x new is e =
-    let items = moved_on s Entering x in
-    let go : selected cast true items (codes "o") each_row (copied s cell r) ≡ Some new =
-    sym (ap (λ (held : Option Held). option_and_then (selected cast true items (codes "o") each_row) (rows_found cast state held)) is) ∙ e in
-    let rows = map_some (with_items true items)
-    (each (λ (v : View). each (item_value cast v) items) (map row_view (map (look_at (codes "o") (names_on s (universe_of s))) (map (copied_on_set s cell (universe_of s)) r))))
-    new go in
-    let found : each (λ t. each (item_value cast (row_of_copy s cell t)) items) r ≡ Some rows.0 = sym (copy_selected s cast cell r items) ∙ rows.1 in
-    let same : unique_keys same_row rows.0 ≡ new.rows = ap (λ (z : Rows). z.rows) rows.2 in
-    record {
-      all = λ t h.
-          let row = each-all (λ (u : Tuple). each (item_value cast (row_of_copy s cell u)) items) r rows.0 t found h in (
-            row.0,
-            subst (λ (all : List (List Cell)). Contains all row.0) same (in_unique same_row same_row-decides rows.0 row.0 row.1),
-            sym (entered-row s cast cell x t) ∙ row.2,
-          );
-      no_more = λ row h.
-          let t = each-from (λ (u : Tuple). each (item_value cast (row_of_copy s cell u)) items) r rows.0 row found
-          (from_unique same_row same_row-decides rows.0 row (subst (λ (all : List (List Cell)). Contains all row) (sym same) h)) in
-          (t.0, t.1, sym (entered-row s cast cell x t.0) ∙ t.2);
-    }
 
 -- ---- the rows of the user's table
 pub table-gives : (e : Engine) (name : List ℕ) (s : Schema) (cell : Cells) (r : Relation) → Holds e name s cell r

@@ -2,12 +2,11 @@
 use Rattle.std.proofs.Common.{◌≡◌, ℕ, ◌⊎◌, Bool, true, false, not, ◌&&◌, ◌||◌, List, [], ◌∷◌, ◌++◌, map, Some, None, Option, refl, sym, ap, ◌∙◌, inl, inr, ⊎_elim}
 use Rattle.std.proofs.lemmas.Bool.{true≢false}
 use Rattle.std.specs.Prelude.{if◌then◌else◌, option_and_then, codes}
-use Rattle.std.specs.List.{flat_map}
 use Rattle.schema_model.specs.Schemas.{Schema}
 use Rattle.ddl_text.specs.declared.table.TableDesign.{TableDesign}
 use Rattle.sql_syntax.specs.Statements.{Statement, remark, begin, commit}
 use Rattle.sql_evaluation.specs.Running.{State, Cast, Fails, Outcome, ended, stopped, tried, is_begin, is_commit, unless_error, run, outcome}
-use Rattle.sql_migrate.specs.Created.{said_of, remarks_made, table_made, tables_made}
+use Rattle.ddl_text.specs.Ddl.{said_of, remarks_made, table_made, tables_made}
 use Rattle.sql_migrate.specs.Script.{fill, work, migration}
 
 -- ---- statements one after the other

@@ -1,35 +1,43 @@
 -- What the tables of a design have in the course of the script, and that none of them is broken.
-use Rattle.std.proofs.Common.{◌≡◌, ◌<◌, ◌≤◌, ℕ, suc, Bool, true, false, List, [], ◌∷◌, ◌++◌, length, get_or, map, Some, None, Option, refl, sym, ap, subst, ◌∙◌, inl, inr, ⊎_elim, arith}
-use Rattle.std.proofs.lemmas.Bool.{cases_Bool, cases_lt, cases_order, true≢false}
+use Rattle.std.proofs.Common.{◌≡◌, ◌<◌, ◌≤◌, ℕ, Bool, true, false, List, [], ◌∷◌, ◌++◌, get_or, map, Some, None, Option, refl, sym, ap, subst, ◌∙◌, inl, inr, ⊎_elim, arith}
+use Rattle.std.proofs.lemmas.Bool.{cases_Bool, cases_lt, cases_order}
 use Rattle.std.proofs.lemmas.Bool.Decides.{nat_tests}
 use Rattle.std.proofs.lemmas.List.Elements.{All-contains, Contains-append_cases}
 use Rattle.std.proofs.lemmas.Option.{slice_get-get_or, get_or_from_slice_get, slice_get_within}
-use Rattle.std.specs.List.{flat_map}
-use Rattle.std.specs.Prelude.{Contains, All, AllPairs, if◌then◌else◌, slice_get}
-use Rattle.attr_sets.specs.Attributes.{Attributes}
+use Rattle.std.specs.Prelude.{Contains, AllPairs, if◌then◌else◌, slice_get}
+use Rattle.attr_sets.specs.Attributes.{Attributes, difference}
 use Rattle.attr_sets.specs.Sets.{attributes}
+use Rattle.schema_model.specs.declared.column_type.ColumnType.TheVariants.{Integer}
 use Rattle.schema_model.specs.Schemas.{Schema}
-use Rattle.schema_model.specs.Schemas.{width_of, universe_of, nullable_of}
-use Rattle.dep_model.specs.Tuples.{Relation}
-use Rattle.dep_model.proofs.DistinctLemmas.{filter-member}
+use Rattle.schema_model.specs.Schemas.{width_of, nullable_of}
+use Rattle.dep_model.specs.Projections.{ordered_projection}
+use Rattle.dep_model.specs.Tuples.{Tuple, Relation, value_at}
+use Rattle.dep_model.proofs.DistinctLemmas.{filter-member, filter-keeps}
 use Rattle.dep_model.proofs.ListLemmas.{Contains-head, Contains-later, Contains-cases, map-member}
+use Rattle.optional_tables.specs.LookUps.{complete_tuples}
 use Rattle.ddl_text.specs.declared.table.TableDesign.{TableDesign}
 use Rattle.ddl_text.specs.Ddl.{is_empty, is_never_missing}
-use Rattle.ddl_text.specs.Designs.{known_keys}
+use Rattle.ddl_text.specs.Designs.{keyed, known_keys}
+use Rattle.ddl_text.specs.KeysAndReferences.{KeyHolds}
 use Rattle.sql_syntax.specs.Names.{quoted_name}
 use Rattle.sql_syntax.specs.Statements.{Element, primary_key, unique_key, Statement, remark, begin, commit, create_table, create_zeros, create_from, create_view, insert_into, insert_all, drop_table}
-use Rattle.sql_evaluation.specs.Cells.{Cell}
+use Rattle.sql_evaluation.specs.Cells.{is_none}
 use Rattle.sql_evaluation.specs.Evaluation.{Rows}
 use Rattle.sql_evaluation.specs.Running.{Held, table, view, State, Cast, Fails, rows_of_table, tried, done}
 use Rattle.sql_evaluation.specs.Rules.{HasMissing, HasRepeated, HasUnmatched, Breaks, IsBroken}
+use Rattle.sql_check.specs.Columns.{type_at}
+use Rattle.sql_check_laws.specs.CheckedRules.{AreIntegers}
+use Rattle.sql_check_laws.specs.HeldRelations.{compared_cell, AreApart}
 use Rattle.sql_check_laws.proofs.CellLemmas.{member_of}
 use Rattle.sql_check_laws.proofs.RowLemmas.{none_is_not_some, some_is}
 use Rattle.sql_check_laws.proofs.ValuesLemmas.{names_on}
-use Rattle.sql_migrate.specs.Moving.{attribute_names}
-use Rattle.sql_migrate.specs.Created.{column_made, columns_made, stated_keys, key_made, keys_made, reference_made, references_made, elements_made, said_of, remarks_made, table_made, tables_made}
+use Rattle.sql_syntax.specs.Names.{attribute_names}
+use Rattle.ddl_text.specs.Ddl.{column_made, columns_made, stated_keys, key_made, keys_made, reference_made, references_made, elements_made, said_of, remarks_made, table_made, tables_made}
 use Rattle.sql_migrate.specs.Script.{fill, work, testing, view_name, view_query, migration}
 use Rattle.sql_migrate_laws.proofs.OrderedLemmas.{Each, each_member, each_after}
 use Rattle.sql_migrate_laws.specs.Ending.{NamesDiffer, IsSoundRun}
+use Rattle.sql_migrate_laws.specs.Moved.{missing_cells, is_complete, complete_for}
+use Rattle.sql_migrate_laws.proofs.CompleteLemmas.{key-present, complete-from, complete-within, complete-tuples}
 use Rattle.sql_migrate_laws.proofs.EnteredLemmas.{Cells}
 use Rattle.sql_migrate_laws.proofs.JoinedLemmas.{projected}
 use Rattle.sql_migrate_laws.proofs.FullLemmas.{column-there, key-there, key-once, key-matched}
@@ -125,23 +133,23 @@ created_of s name designs held elements h =
 
 -- ---- the elements of a table
 of_element : (s : Schema) (designs : List TableDesign) (t : TableDesign) (P : Element → Type 0)
-    → ((k : ℕ) → k < width_of s → attributes t.scheme k ≡ true → P (column_made s k))
+    → ((k : ℕ) → k < width_of s → attributes t.scheme k ≡ true → P (column_made s (difference (nullable_of s) (attributes t.key)) k))
     → P (primary_key (attribute_names s (attributes t.key)))
     → ((key : Attributes) → Contains (known_keys t.other_keys) key → P (unique_key (attribute_names s key)))
     → ((j : ℕ) → Contains t.refs.items j → P (reference_made s (get_or designs j t)))
     → (e : Element) → Contains (elements_made s designs t) e → P e
 of_element s designs t P column primary unique reference e h = ⊎_elim
     (λ front. ⊎_elim
-    (λ first. let of = map-member (column_made s) _ e first in
+    (λ first. let of = map-member (column_made s (difference (nullable_of s) (attributes t.key))) _ e first in
     let m = member_of (width_of s) (attributes t.scheme) of.0 of.1 in subst P of.2 (column of.0 m.0 m.1))
     (λ second. ⊎_elim
     (λ key. by_key (is_empty (attributes t.key)) key)
     (λ other. let of = map-member (λ (key : Attributes). unique_key (attribute_names s key)) (stated_keys s (known_keys t.other_keys)) e other in
     subst P of.2 (unique of.0 (filter-member (is_never_missing s) (known_keys t.other_keys) of.0 of.1).0))
     (Contains-append_cases (key_made s (attributes t.key)) (map (λ key. unique_key (attribute_names s key)) (stated_keys s (known_keys t.other_keys))) e second))
-    (Contains-append_cases (columns_made s (attributes t.scheme)) (keys_made s t) e front))
+    (Contains-append_cases (columns_made s t) (keys_made s t) e front))
     (λ back. let of = map-member (λ (j : ℕ). reference_made s (get_or designs j t)) t.refs.items e back in subst P of.2 (reference of.0 of.1))
-    (Contains-append_cases (columns_made s (attributes t.scheme) ++ keys_made s t) (references_made s designs t) e h)
+    (Contains-append_cases (columns_made s t ++ keys_made s t) (references_made s designs t) e h)
   where
     by_key : (empty : Bool) → Contains (if empty then [] else primary_key (attribute_names s (attributes t.key)) ∷ []) e → P e
     by_key true key = absurd (omega (arith, key.1))
@@ -164,7 +172,7 @@ abbrev pub new_table : Schema → TableDesign → Rows
 new_table s t = record { names = names_on s (attributes t.scheme); rows = [] }
 
 abbrev pub full_table : Schema → Cast → Cells → Relation → TableDesign → Rows
-full_table s cast cell r t = projected s cast cell r (attributes t.scheme)
+full_table s cast cell r t = projected s cast cell (complete_for s cell t r) (attributes t.scheme)
 
 -- the first m tables are there, of which the first f are filled
 pub record IsAt (s : Schema) (cast : Cast) (cell : Cells) (r : Relation) (designs : List TableDesign) (m f : ℕ) (z : State) : Type 0 where
@@ -221,6 +229,32 @@ module _ (fails : Fails) (cast : Cast) (s : Schema) (name : List ℕ) (cell : Ce
       nothing_twice : (columns : _) → HasRepeated (new_table s t) columns → ⊥
       nothing_twice columns has = none_is_not_some has.first has.at_first
 
+  -- the tuples of a table
+  abbrev complete : TableDesign → Relation
+  complete t = complete_for s cell t r
+
+  -- what holds of the values of the relation holds of theirs
+  integers_of : (t : TableDesign) (k : ℕ) → k < width_of s → type_at s k ≡ Integer → AreIntegers (compared_cell cell) (complete t) k
+  integers_of t k low e u h = sound.integers k low e u (complete-within s cell t r u h)
+
+  apart_of : (t : TableDesign) → AreApart s cell (complete t)
+  apart_of t k low u v hu hv = sound.holds.apart k low u v (complete-within s cell t r u hu) (complete-within s cell t r v hv)
+
+  -- a value is there where none may be missing
+  required-there : (t : TableDesign) (k : ℕ) → k < width_of s → difference (nullable_of s) (attributes t.key) k ≡ false
+      → (u : Tuple) → Contains (complete t) u → is_none (cell k (value_at u k)) ≡ false
+  required-there t k low required u h = elim (cases_Bool (nullable_of s k)) [
+    | inl nullable ↦ key-present s cell r sound.none_missing t u h k low (grind (arith, required, nullable))
+    | inr never ↦ sound.none_missing k (grind (arith, nat_tests, low, never)) u (complete-within s cell t r u h)
+  ]
+
+  -- a key of the rows of a table holds
+  key-holds : (t : TableDesign) (key : Attributes)
+      → KeyHolds (attributes t.scheme) (ordered_projection (attributes t.scheme) (complete_tuples (missing_cells s cell) (keyed t) r)) key
+      → KeyHolds (attributes t.scheme) (ordered_projection (attributes t.scheme) (complete t)) key
+  key-holds t key holds =
+      subst (λ (rows : Relation). KeyHolds (attributes t.scheme) (ordered_projection (attributes t.scheme) rows) key) (complete-tuples s cell t r sound.legal) holds
+
   full-unbroken : (z : State) (k : ℕ) (t : TableDesign) → slice_get designs k ≡ Some t
       → ((j : ℕ) (other : TableDesign) → j < k → slice_get designs j ≡ Some other → z (quoted_name other.name) ≡ Some (table false (full_table s cast cell r other)))
       → (e : Element) → Contains (elements_made s designs t) e → Breaks z (full_table s cast cell r t) e → ⊥
@@ -230,15 +264,15 @@ module _ (fails : Fails) (cast : Cast) (s : Schema) (name : List ℕ) (cell : Ce
       let inside : Contains designs t = (k, slice_get_within designs k t at, get_or_from_slice_get designs k t t at) in
       let within = fits.within t inside in
       of_element s designs t (λ (x : Element). Breaks z (full_table s cast cell r t) x → ⊥)
-      (λ i low has breaks. column-there cast s cell r sound.casts sound.integers sound.holds.apart sound.none_missing sound.comparable x i low has breaks.0 breaks.1)
+      (λ i low has breaks. column-there cast s cell (complete t) sound.casts (integers_of t) (apart_of t) x i low has (required-there t i low breaks.0) breaks.1)
       (λ breaks. ⊎_elim
-      (λ missing. key-there cast s cell r sound.casts sound.integers sound.holds.apart sound.none_missing sound.comparable x (attributes t.key) within
-      (fits.key_within t inside) (fits.keys_required t inside) missing)
-      (λ twice. key-once cast s cell r sound.casts sound.integers sound.holds.apart sound.none_missing sound.comparable x (attributes t.key) within
-      (fits.key_within t inside) (fits.keys_hold r sound.legal t inside) twice)
+      (λ missing. key-there cast s cell (complete t) sound.casts (integers_of t) (apart_of t) x (attributes t.key) (fits.key_within t inside)
+      (λ i low has u hu. key-present s cell r sound.none_missing t u hu i low has) missing)
+      (λ twice. key-once cast s cell (complete t) sound.casts (integers_of t) (apart_of t) x (attributes t.key) within
+      (fits.key_within t inside) (key-holds t (attributes t.key) (fits.keys_hold (missing_cells s cell) r sound.legal t inside)) twice)
       breaks)
-      (λ key known breaks. key-once cast s cell r sound.casts sound.integers sound.holds.apart sound.none_missing sound.comparable x key within
-      (fits.other_keys_within t inside key known) (fits.other_keys_hold r sound.legal t inside key known) breaks)
+      (λ key known breaks. key-once cast s cell (complete t) sound.casts (integers_of t) (apart_of t) x key within
+      (fits.other_keys_within t inside key known) (key-holds t key (fits.other_keys_hold (missing_cells s cell) r sound.legal t inside key known)) breaks)
       (λ j refers breaks.
       let of = referred k t j at refers in
       let other = get_or designs j t in
@@ -246,8 +280,10 @@ module _ (fails : Fails) (cast : Cast) (s : Schema) (name : List ℕ) (cell : Ce
       let other_in : Contains designs other = (j, slice_get_within designs j other of.1, get_or_from_slice_get designs j other other of.1) in
       ⊎_elim
       (λ gone. none_is_not_some (table false (full_table s cast cell r other)) (sym gone ∙ held))
-      (λ unmatched. key-matched cast s cell r sound.casts sound.integers sound.holds.apart sound.none_missing sound.comparable x (attributes other.scheme) (attributes other.key)
+      (λ unmatched. key-matched cast s cell (complete t) sound.casts (integers_of t) (apart_of t) (complete other) x (attributes other.scheme) (attributes other.key)
       (fits.refers_within t other j inside refers of.1) (fits.key_within other other_in)
+      (λ u hu present. filter-keeps (is_complete s cell (attributes other.key)) r u (complete-within s cell t r u hu)
+      (complete-from s cell (attributes other.key) u (λ i low in_key nullable. present i low in_key)))
       (subst (λ (found : Option Rows). HasUnmatched (full_table s cast cell r t) (attribute_names s (attributes other.key)) found) (ap rows_of_table held) unmatched))
       breaks)
       e h

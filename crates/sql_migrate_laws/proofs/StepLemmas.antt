@@ -2,22 +2,20 @@
 use Rattle.std.proofs.Common.{◌≡◌, ℕ, Bool, true, false, not, List, [], ◌∷◌, ◌++◌, length, map, Some, None, Option, refl, sym, ap, subst, ◌∙◌, inl, inr, ⊎_elim, arith}
 use Rattle.std.proofs.lemmas.Bool.{cases_Bool, true≢false}
 use Rattle.std.specs.Prelude.{Contains, ◌==◌, if◌then◌else◌, option_map, option_and_then, is_some}
-use Rattle.std.specs.List.{flat_map}
 use Rattle.std.specs.Str.{bytes_eq}
 use Rattle.attr_sets.specs.Sets.{attributes}
 use Rattle.schema_model.specs.Schemas.{Schema}
 use Rattle.dep_model.proofs.ListLemmas.{Contains-head, Contains-later, Contains-cases}
 use Rattle.ddl_text.specs.declared.table.TableDesign.{TableDesign}
 use Rattle.sql_syntax.specs.Names.{quoted_name}
-use Rattle.sql_syntax.specs.Syntax.{Query}
 use Rattle.sql_syntax.specs.Statements.{Statement, remark, create_table}
 use Rattle.sql_evaluation.specs.Values.{bytes_of}
 use Rattle.sql_evaluation.specs.Evaluation.{Rows, evaluate}
-use Rattle.sql_evaluation.specs.Running.{Held, table, view, State, Cast, Fails, tried, done, made, with_name, with_rows, filled, inserted, has_columns, all_zeros, column_names, engine_at}
+use Rattle.sql_evaluation.specs.Running.{Held, table, State, Cast, Fails, tried, done, made, with_name, with_rows, filled, inserted, has_columns, all_zeros, column_names, engine_at}
 use Rattle.sql_check_laws.proofs.ColumnLemmas.{bytes_same, bytes_self}
 use Rattle.sql_check_laws.proofs.RowLemmas.{none_is_not_some, some_is}
-use Rattle.sql_migrate.specs.Moving.{attribute_names}
-use Rattle.sql_migrate.specs.Created.{elements_made, said_of, remarks_made, table_made, tables_made}
+use Rattle.sql_syntax.specs.Names.{attribute_names}
+use Rattle.ddl_text.specs.Ddl.{elements_made, said_of, remarks_made, table_made, tables_made}
 use Rattle.sql_migrate.specs.Script.{fill, fill_query}
 use Rattle.sql_migrate_laws.proofs.RunLemmas.{steps}
 
@@ -188,7 +186,7 @@ was_inserted name state next zeros old new is e =
 
 -- what a query gives, as it is seen by the tables
 abbrev pub FillsFrom : Cast → Schema → State → TableDesign → Rows → Type 0
-FillsFrom cast s state t new = evaluate (engine_at cast state) (fill_query s (attributes t.scheme)) ≡ Some new
+FillsFrom cast s state t new = evaluate (engine_at cast state) (fill_query s t) ≡ Some new
 
 abbrev pub IsFilled : State → TableDesign → Rows → Type 0
 IsFilled state t new = (names : List (List ℕ)) × (state (quoted_name t.name) ≡ Some (table false (record { names = names; rows = new.rows })))
@@ -200,9 +198,9 @@ pub table_filled : (fails : Fails) (cast : Cast) (s : Schema) (t : TableDesign) 
 unfolding fill
 table_filled fails cast s t state next new e =
     let name = quoted_name t.name in
-    let go = option_and_then (inserted name state) (evaluate (engine_at cast state) (fill_query s (attributes t.scheme))) in
+    let go = option_and_then (inserted name state) (evaluate (engine_at cast state) (fill_query s t)) in
     let fits = when_some (has_columns (map bytes_of (attribute_names s (attributes t.scheme))) (state name)) go next (was_done fails cast (fill s t) state next e) in
-    let found = bind_some (inserted name state) (evaluate (engine_at cast state) (fill_query s (attributes t.scheme))) next fits.1 in
+    let found = bind_some (inserted name state) (evaluate (engine_at cast state) (fill_query s t)) next fits.1 in
     let old : Rows = record { names = new.0; rows = [] } in
     let rows = was_inserted name state next false old found.0 new.1 found.2 in
     let held : Held = table false (record { names = new.0; rows = found.0.rows }) in (

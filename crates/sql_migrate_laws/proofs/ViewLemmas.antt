@@ -1,5 +1,5 @@
 -- The view gives the same in states that have the same in the tables of the design.
-use Rattle.std.proofs.Common.{◌≡◌, ℕ, Bool, true, false, List, [], ◌∷◌, map, Some, None, Option, refl, sym, ap, ◌∙◌}
+use Rattle.std.proofs.Common.{◌≡◌, ℕ, Bool, true, false, List, [], ◌∷◌, ◌++◌, map, Some, None, Option, refl, sym, ap, ◌∙◌}
 use Rattle.std.specs.Prelude.{Contains, if◌then◌else◌, option_and_then, codes}
 use Rattle.attr_sets.specs.Attributes.{Attributes, union, intersection}
 use Rattle.attr_sets.specs.Sets.{attributes}
@@ -8,24 +8,28 @@ use Rattle.schema_model.specs.Schemas.{universe_of}
 use Rattle.dep_model.proofs.ListLemmas.{Contains-head, Contains-later}
 use Rattle.ddl_text.specs.Ddl.{is_empty}
 use Rattle.ddl_text.specs.declared.table.TableDesign.{TableDesign}
-use Rattle.sql_syntax.specs.Names.{quoted_name}
+use Rattle.sql_syntax.specs.Names.{attribute_names, quoted_name}
 use Rattle.sql_syntax.specs.Syntax.{Link, by_columns, crosswise, each_row}
 use Rattle.sql_evaluation.specs.Values.{bytes_of}
-use Rattle.sql_evaluation.specs.Evaluation.{Rows, Engine, joined_by, columns_of, linked, all_linked, selected, evaluate}
+use Rattle.sql_evaluation.specs.Evaluation.{Rows, Engine, joined_by, left_joined_by, columns_of, linked, all_linked, selected, evaluate}
 use Rattle.sql_evaluation.specs.Running.{Held, view, State, Cast, rows_of_table, rows_found, engine_at}
 use Rattle.sql_migrate.specs.declared.joining.JoinedTable.{JoinedTable}
 use Rattle.sql_migrate.specs.declared.moving.Move.TheVariants.{Returning}
-use Rattle.sql_migrate.specs.Moving.{attribute_names, moved_on}
-use Rattle.sql_migrate_laws.proofs.OrderedLemmas.{Each, each_ordered}
-use Rattle.sql_migrate.specs.Script.{link, links, join_of, joined_tables, view_name, view_order, view_query, viewed_rows}
+use Rattle.sql_migrate.specs.Moving.{moved_on}
+use Rattle.sql_migrate.specs.Script.{link, links, look_up, join_of, joined_tables, filled_tables, looked_up_tables, view_name, view_order, view_query, viewed_rows}
+use Rattle.sql_migrate_laws.proofs.OrderedLemmas.{Each, each_after, each_ordered}
+use Rattle.sql_migrate_laws.proofs.PositionLemmas.{filled_within, looked_up_within}
 
 -- ---- engines that have the same
 abbrev Agree : Engine → Engine → List ℕ → Type 0
 Agree e f name = e.tables name ≡ f.tables name
 
-linked-same : (e f : Engine) (s : Schema) (shared : Attributes) (a : Rows) (t : JoinedTable) → Agree e f (quoted_name t.name)
-    → linked e a (link s shared t) ≡ linked f a (link s shared t)
-linked-same e f s shared a t same = by_test (is_empty shared)
+-- a table is joined alike to whatever stands before it
+abbrev LinkAgrees : Engine → Engine → Link → Type 0
+LinkAgrees e f l = (a : Rows) → linked e a l ≡ linked f a l
+
+link-same : (e f : Engine) (s : Schema) (shared : Attributes) (t : JoinedTable) → Agree e f (quoted_name t.name) → LinkAgrees e f (link s shared t)
+link-same e f s shared t same a = by_test (is_empty shared)
   where
     by_test : (b : Bool)
         → linked e a (if b then crosswise (quoted_name t.name) else by_columns (quoted_name t.name) (attribute_names s shared))
@@ -33,28 +37,45 @@ linked-same e f s shared a t same = by_test (is_empty shared)
     by_test true = ap (option_and_then (joined_by [] a)) same
     by_test false = ap (option_and_then (joined_by (map bytes_of (attribute_names s shared)) a)) same
 
+look_up-same : (e f : Engine) (s : Schema) (t : TableDesign) → Agree e f (quoted_name t.name) → LinkAgrees e f (look_up s t)
+look_up-same e f s t same a = ap (option_and_then (left_joined_by (map bytes_of (attribute_names s (attributes t.key))) a)) same
+
+links_agree : (e f : Engine) (s : Schema) (seen : Attributes) (ts : List JoinedTable) → Each (λ t. Agree e f (quoted_name t.name)) ts
+    → Each (LinkAgrees e f) (links s seen ts)
+links_agree e f s seen [] same = tt
+links_agree e f s seen (t ∷ ts) same =
+    (link-same e f s (intersection seen (attributes t.scheme)) t same.0, links_agree e f s (union seen (attributes t.scheme)) ts same.1)
+
+look_ups_agree : (e f : Engine) (s : Schema) (ts : List TableDesign) → ((t : TableDesign) → Contains ts t → Agree e f (quoted_name t.name))
+    → Each (LinkAgrees e f) (map (look_up s) ts)
+look_ups_agree e f s [] same = tt
+look_ups_agree e f s (t ∷ ts) same =
+    (look_up-same e f s t (same t (Contains-head t ts)), look_ups_agree e f s ts (λ u h. same u (Contains-later t ts u h)))
+
 after-same : {X Y : Type 0} (f g : X → Option Y) (found : Option X) → ((x : X) → f x ≡ g x) → option_and_then f found ≡ option_and_then g found
 after-same f g None same = refl
 after-same f g (Some x) same = same x
 
-links-same : (e f : Engine) (s : Schema) (seen : Attributes) (ts : List JoinedTable) (a : Rows) → Each (λ t. Agree e f (quoted_name t.name)) ts
-    → all_linked e (links s seen ts) a ≡ all_linked f (links s seen ts) a
-links-same e f s seen [] a same = refl
-links-same e f s seen (t ∷ ts) a same =
-    let l = link s (intersection seen (attributes t.scheme)) t in
-    let rest = links s (union seen (attributes t.scheme)) ts in
-    ap (option_and_then (all_linked e rest)) (linked-same e f s (intersection seen (attributes t.scheme)) a t same.0)
-    ∙ after-same (all_linked e rest) (all_linked f rest) (linked f a l) (λ b. links-same e f s (union seen (attributes t.scheme)) ts b same.1)
+links-same : (e f : Engine) (ls : List Link) → Each (LinkAgrees e f) ls → (a : Rows) → all_linked e ls a ≡ all_linked f ls a
+links-same e f [] same a = refl
+links-same e f (l ∷ ls) same a =
+    ap (option_and_then (all_linked e ls)) (same.0 a)
+    ∙ after-same (all_linked e ls) (all_linked f ls) (linked f a l) (λ b. links-same e f ls same.1 b)
 
-join-same : (e f : Engine) (s : Schema) (ts : List JoinedTable) → Agree e f [] → Each (λ t. Agree e f (quoted_name t.name)) ts
-    → evaluate e (join_of s ts) ≡ evaluate f (join_of s ts)
-join-same e f s [] empty same =
-    ap (λ (found : Option Rows). option_and_then (columns_of (map bytes_of (attribute_names s (universe_of s)))) (option_and_then (λ a. Some a) found)) empty
-join-same e f s (t ∷ ts) empty same =
-    let rest = links s (attributes t.scheme) ts in
+join-same : (e f : Engine) (s : Schema) (ts : List JoinedTable) (optional : List TableDesign) → Agree e f [] → Each (λ t. Agree e f (quoted_name t.name)) ts
+    → ((t : TableDesign) → Contains optional t → Agree e f (quoted_name t.name)) → evaluate e (join_of s ts optional) ≡ evaluate f (join_of s ts optional)
+join-same e f s [] optional empty same looked_up =
+    let ls = map (look_up s) optional in
     let select = option_and_then (columns_of (map bytes_of (attribute_names s (universe_of s)))) in
-    ap (λ (found : Option Rows). select (option_and_then (all_linked e rest) found)) same.0
-    ∙ ap select (after-same (all_linked e rest) (all_linked f rest) (f.tables (quoted_name t.name)) (λ a. links-same e f s (attributes t.scheme) ts a same.1))
+    ap (λ (found : Option Rows). select (option_and_then (all_linked e ls) found)) empty
+    ∙ ap select (after-same (all_linked e ls) (all_linked f ls) (f.tables []) (links-same e f ls (look_ups_agree e f s optional looked_up)))
+join-same e f s (t ∷ ts) optional empty same looked_up =
+    let ls = links s (attributes t.scheme) ts ++ map (look_up s) optional in
+    let agree = each_after (LinkAgrees e f) (links s (attributes t.scheme) ts) (map (look_up s) optional)
+    (links_agree e f s (attributes t.scheme) ts same.1) (look_ups_agree e f s optional looked_up) in
+    let select = option_and_then (columns_of (map bytes_of (attribute_names s (universe_of s)))) in
+    ap (λ (found : Option Rows). select (option_and_then (all_linked e ls) found)) same.0
+    ∙ ap select (after-same (all_linked e ls) (all_linked f ls) (f.tables (quoted_name t.name)) (links-same e f ls agree))
 
 -- ---- states that have the same
 each_design : (P : List ℕ → Type 0) (tables : List TableDesign) → ((t : TableDesign) → Contains tables t → P (quoted_name t.name))
@@ -74,9 +95,12 @@ pub viewed-same : (cast : Cast) (s : Schema) (tables : List TableDesign) (one ot
 unfolding viewed_rows view_query
 viewed-same cast s tables one other first second empty same =
     let select = option_and_then (selected cast false (moved_on s Returning (universe_of s)) (codes "j") each_row) in
-    let seen = joined_tables tables in
+    let e = tables_at cast one in
+    let f = tables_at cast other in
+    let seen = joined_tables (filled_tables s tables) in
     ap (λ (held : Option Held). select (rows_found cast one held)) first
-    ∙ ap select (join-same (tables_at cast one) (tables_at cast other) s (view_order seen) (ap rows_of_table empty)
-    (each_ordered (λ t. Agree (tables_at cast one) (tables_at cast other) (quoted_name t.name)) seen
-    (each_design (Agree (tables_at cast one) (tables_at cast other)) tables (λ t h. ap rows_of_table (same t h)))))
+    ∙ ap select (join-same e f s (view_order seen) (looked_up_tables s tables) (ap rows_of_table empty)
+    (each_ordered (λ t. Agree e f (quoted_name t.name)) seen
+    (each_design (Agree e f) (filled_tables s tables) (λ t h. ap rows_of_table (same t (filled_within s tables t h)))))
+    (λ t h. ap rows_of_table (same t (looked_up_within s tables t h))))
     ∙ sym (ap (λ (held : Option Held). select (rows_found cast other held)) second)

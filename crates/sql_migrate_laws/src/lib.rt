@@ -5,13 +5,15 @@
 //! Each law is a function that does nothing, whose clause is the law; so the gate asks for its
 //! proof.
 //!
-//! Promises: where a run ends without an error, each table of the design holds the projection of
-//! the user's table on its scheme, the view on their join has exactly the rows of the user's table,
-//! which has no other columns, and everything else is as it was; where it ends with an error,
-//! nothing is changed. Over a table that holds a relation of which no rule is broken, for a design
-//! that loses nothing and fits, it ends without an error in an engine that casts integers and
-//! refuses nothing but what breaks a key, a reference, or a column in which no value may be missing.
-//! A cross join stands only between parts of the plan that share nothing.
+//! Promises: where a run ends without an error, each table of the design holds the projection on its
+//! scheme of those rows of the user's table that miss no value of its key, the view on the join of
+//! the tables, from which the optional ones are looked up, has exactly the rows of the user's table,
+//! which has no other columns, and everything else is as it was; where it ends with an error, nothing
+//! is changed. Over a table that holds a relation of which no rule is broken, and in which what an
+//! optional table has beside its key is missing wherever a value of the key is, for a design that
+//! loses nothing and fits, it ends without an error in an engine that casts integers and refuses
+//! nothing but what breaks a key, a reference, or a column in which no value may be missing. Of the
+//! tables that are not optional, a cross join stands only between parts that share nothing.
 #![tactic(auto)]
 
 mod crossing;

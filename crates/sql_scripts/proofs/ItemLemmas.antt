@@ -1,5 +1,5 @@
 -- Lists of items: one more at the end.
-use Rattle.std.proofs.Common.{◌≡◌, ◌<◌, ◌≤◌, ◌+◌, ℕ, zero, suc, Bool, true, false, List, [], ◌∷◌, ◌++◌, length, get_or, take, drop, take_all, sym, ap, ◌∙◌, append-nil, append_assoc, add-one, arith}
+use Rattle.std.proofs.Common.{◌≡◌, ◌<◌, ◌≤◌, ◌+◌, ℕ, zero, suc, Bool, true, false, List, [], ◌∷◌, ◌++◌, length, get_or, take, drop, take_all, refl, sym, ap, ◌∙◌, append-nil, append_assoc, add-one, arith}
 use Rattle.std.specs.Prelude.{◌-◌, if◌then◌else◌, codes}
 use Rattle.std.specs.List.{zip}
 use Rattle.std.proofs.lemmas.List.{flat_map_more, length-drop}
@@ -9,9 +9,13 @@ use Rattle.dep_model.proofs.SchemeLemmas.{members_below-member, members_below-ou
 use Rattle.sql_syntax.specs.Names.{separator, comma_list, is_not_empty}
 use Rattle.sql_syntax.proofs.ListLemmas.{comma_list-push, not_empty_pushed}
 use Rattle.schema_model.specs.Schemas.{Schema}
-use Rattle.sql_syntax.specs.Printing.{condition_text}
+use Rattle.std.proofs.lemmas.Bool.{true≢false}
+use Rattle.sql_syntax.specs.Printing.{clause_text, condition_text}
 use Rattle.sql_check.specs.Checks.{some_missing}
-use Rattle.sql_scripts.specs.Listing.{missing_test, missing_tests}
+use Rattle.sql_migrate.specs.Script.{have_values, rows_with}
+use Rattle.sql_scripts.specs.declared.missing.Asked.{Asked}
+use Rattle.sql_scripts.specs.declared.missing.Asked.TheVariants.{Missing, Present}
+use Rattle.sql_scripts.specs.Listing.{between, test_at, tests_at}
 
 -- ---- columns
 pub listed_more : (f : ℕ → List ℕ) (x : Attributes) (n : ℕ) (any_written : Bool) (text next piece : List ℕ) → x n ≡ true
@@ -33,29 +37,47 @@ pub members_passed : (x : Attributes) (n : ℕ) → x n ≡ false → members_be
 members_passed x n outside = rw add-one (members_below-outside n x outside)
 
 -- ---- missing values
-tests_push : (s : Schema) (ks : List ℕ) (k : ℕ)
-    → missing_tests s (ks ++ k ∷ []) ≡ missing_tests s ks ++ (if is_not_empty ks then codes " OR " ++ missing_test s k else missing_test s k)
-tests_push s [] k = append-nil (missing_test s k)
-tests_push s (m ∷ ks) k = sym (flat_map_more (λ z. codes " OR " ++ missing_test s z) (missing_test s m) ks k)
+tests_push : (s : Schema) (asked : Asked) (ks : List ℕ) (k : ℕ)
+    → tests_at s asked (ks ++ k ∷ [])
+    ≡ tests_at s asked ks ++ (if is_not_empty ks then between asked ++ test_at s asked k else test_at s asked k)
+tests_push s asked [] k = append-nil (test_at s asked k)
+tests_push s asked (m ∷ ks) k = sym (flat_map_more (λ z. between asked ++ test_at s asked z) (test_at s asked m) ks k)
 
-pub tests_more : (s : Schema) (x : Attributes) (n : ℕ) (any_written : Bool) (text next piece : List ℕ) → x n ≡ true
-    → text ≡ missing_tests s (members_below n x) → any_written ≡ is_not_empty (members_below n x) → piece ≡ missing_test s n
-    → next ≡ text ++ (if any_written then codes " OR " ++ piece else piece)
-    → next ≡ missing_tests s (members_below (n + 1) x)
-tests_more s x n any_written text next piece inside so_far is_some is added =
-    added ∙ ap (λ (t : List ℕ). t ++ (if any_written then codes " OR " ++ piece else piece)) so_far
-    ∙ ap (λ (p : List ℕ). missing_tests s (members_below n x) ++ (if any_written then codes " OR " ++ p else p)) is
-    ∙ ap (λ (b : Bool). missing_tests s (members_below n x) ++ (if b then codes " OR " ++ missing_test s n else missing_test s n)) is_some
-    ∙ sym (tests_push s (members_below n x) n)
-    ∙ ap (missing_tests s) (sym (rw add-one (members_below-member n x inside)))
+pub tests_more : (s : Schema) (asked : Asked) (x : Attributes) (n : ℕ) (any_written : Bool) (text next piece : List ℕ) → x n ≡ true
+    → text ≡ tests_at s asked (members_below n x) → any_written ≡ is_not_empty (members_below n x) → piece ≡ test_at s asked n
+    → next ≡ text ++ (if any_written then between asked ++ piece else piece)
+    → next ≡ tests_at s asked (members_below (n + 1) x)
+tests_more s asked x n any_written text next piece inside so_far is_some is added =
+    added ∙ ap (λ (t : List ℕ). t ++ (if any_written then between asked ++ piece else piece)) so_far
+    ∙ ap (λ (p : List ℕ). tests_at s asked (members_below n x) ++ (if any_written then between asked ++ p else p)) is
+    ∙ ap (λ (b : Bool). tests_at s asked (members_below n x) ++ (if b then between asked ++ test_at s asked n else test_at s asked n)) is_some
+    ∙ sym (tests_push s asked (members_below n x) n)
+    ∙ ap (tests_at s asked) (sym (rw add-one (members_below-member n x inside)))
 
 -- the tests are those of the query
-pub tests_are : (s : Schema) (k : ℕ) (ms : List ℕ) → condition_text (some_missing s k ms) ≡ missing_tests s (k ∷ ms)
-unfolding missing_test
-tests_are s k [] = sym (append-nil (missing_test s k))
+pub tests_are : (s : Schema) (k : ℕ) (ms : List ℕ) → condition_text (some_missing s k ms) ≡ tests_at s Missing (k ∷ ms)
+unfolding test_at
+tests_are s k [] = sym (append-nil (test_at s Missing k))
 tests_are s k (m ∷ ms) =
-    ap (λ (t : List ℕ). missing_test s k ++ codes " OR " ++ t) (tests_are s m ms)
-    ∙ append_assoc (missing_test s k) (codes " OR ") (missing_tests s (m ∷ ms))
+    ap (λ (t : List ℕ). test_at s Missing k ++ codes " OR " ++ t) (tests_are s m ms)
+    ∙ append_assoc (test_at s Missing k) (codes " OR ") (tests_at s Missing (m ∷ ms))
+
+-- and those of the rows that fill a table
+values_are : (s : Schema) (k : ℕ) (ms : List ℕ) → condition_text (have_values s k ms) ≡ tests_at s Present (k ∷ ms)
+unfolding test_at
+values_are s k [] = sym (append-nil (test_at s Present k))
+values_are s k (m ∷ ms) =
+    ap (λ (t : List ℕ). test_at s Present k ++ codes " AND " ++ t) (values_are s m ms)
+    ∙ append_assoc (test_at s Present k) (codes " AND ") (tests_at s Present (m ∷ ms))
+
+pub rows_printed : (s : Schema) (ks : List ℕ) → is_not_empty ks ≡ true
+    → codes " WHERE " ++ tests_at s Present ks ≡ clause_text (rows_with s ks)
+rows_printed s [] not_empty = absurd (true≢false (sym not_empty))
+rows_printed s (k ∷ ks) not_empty = ap (λ (t : List ℕ). codes " WHERE " ++ t) (sym (values_are s k ks))
+
+pub all_printed : (s : Schema) (ks : List ℕ) → is_not_empty ks ≡ false → [] ≡ clause_text (rows_with s ks)
+all_printed s [] empty = refl
+all_printed s (k ∷ ks) empty = absurd (true≢false empty)
 
 -- ---- pairs
 abbrev one_pair : {K X : Type 0} → K → X → List (K × X)

@@ -1,20 +1,23 @@
 -- The text of a join: one table more at the end, and the link to a table.
-use Rattle.std.proofs.Common.{◌≡◌, ◌<◌, ◌+◌, ℕ, Bool, List, [], ◌∷◌, ◌++◌, length, get_or, take, drop, refl, sym, ap, ◌∙◌, append-nil, append_assoc, arith}
-use Rattle.std.specs.Prelude.{if◌then◌else◌, codes}
+use Rattle.std.proofs.Common.{◌≡◌, ◌<◌, ◌+◌, ℕ, Bool, List, [], ◌∷◌, ◌++◌, length, get_or, map, take, drop, refl, sym, ap, ◌∙◌, append-nil, append_assoc, arith}
+use Rattle.std.specs.Prelude.{if◌then◌else◌, codes, slice_get}
 use Rattle.std.specs.List.{flat_map}
-use Rattle.std.proofs.lemmas.List.{take_more}
+use Rattle.std.proofs.lemmas.Grind.{flat_map-append}
+use Rattle.std.proofs.lemmas.List.{map-append, take_more}
+use Rattle.std.proofs.lemmas.Option.{slice_get_read}
+use Rattle.optional_tables.specs.Order.{if_there, members_at}
+use Rattle.ddl_text.specs.declared.table.TableDesign.{TableDesign}
 use Rattle.attr_sets.specs.Attributes.{Attributes, union, intersection, IsEmpty}
 use Rattle.attr_sets.specs.Sets.{attributes}
 use Rattle.attr_sets.specs.declared.set.AttrSet.{AttrSet}
 use Rattle.schema_model.specs.Schemas.{Schema}
 use Rattle.schema_model.specs.Schemas.{universe_of}
 use Rattle.ddl_text.proofs.TextLemmas.{empty_passes, empty_fails}
-use Rattle.sql_syntax.specs.Names.{quoted_name}
+use Rattle.sql_syntax.specs.Names.{attribute_names, quoted_name}
 use Rattle.sql_syntax.specs.Syntax.{by_columns, crosswise}
 use Rattle.sql_syntax.specs.Printing.{link_text, names_text, joined_text, query_text}
 use Rattle.sql_migrate.specs.declared.joining.JoinedTable.{JoinedTable}
-use Rattle.sql_migrate.specs.Moving.{attribute_names}
-use Rattle.sql_migrate.specs.Script.{link, links, join_of}
+use Rattle.sql_migrate.specs.Script.{link, links, look_up, join_of}
 
 -- the attributes of tables, beside others
 abbrev pub seen_with : Attributes → List JoinedTable → Attributes
@@ -75,17 +78,51 @@ link_by_columns s shared table some =
     sym (ap (λ (b : Bool). link_text (if b then crosswise (quoted_name table.name) else by_columns (quoted_name table.name) (attribute_names s (attributes shared))))
     (empty_fails shared some))
 
--- ---- the whole join
-pub no_tables : (s : Schema) (tables : List JoinedTable) (names : List ℕ) → length tables ≡ 0 → names ≡ names_text (attribute_names s (universe_of s))
-    → joined_text names [] [] ≡ query_text (join_of s tables)
-no_tables s [] names none is = ap (λ (t : List ℕ). joined_text t [] []) is
-no_tables s (first ∷ tables) names none is = absurd (omega (arith, none))
+-- ---- look-ups
+-- the links of looked-up tables
+abbrev pub look_up_links : Schema → List TableDesign → List ℕ
+look_up_links s tables = flat_map link_text (map (look_up s) tables)
 
-pub some_tables : (s : Schema) (tables : List JoinedTable) (d : JoinedTable) (names : List ℕ) → 0 < length tables
-    → d ≡ get_or tables 0 d → names ≡ names_text (attribute_names s (universe_of s))
-    → joined_text names (quoted_name d.name) (flat_map link_text (links s (attributes d.scheme) (drop 1 tables))) ≡ query_text (join_of s tables)
-some_tables s [] d names some at is = absurd (omega (arith, some))
-some_tables s (table ∷ tables) d names some at is =
-    ap (λ (t : List ℕ). joined_text t (quoted_name d.name) (flat_map link_text (links s (attributes d.scheme) tables))) is
-    ∙ ap (λ (t : JoinedTable). joined_text (names_text (attribute_names s (universe_of s))) (quoted_name t.name)
-    (flat_map link_text (links s (attributes t.scheme) tables))) at
+pub look_ups_more : (s : Schema) (designs : List TableDesign) (positions : List ℕ) (i d : ℕ) (table : TableDesign) (text next piece : List ℕ)
+    → i < length positions → get_or positions i d < length designs → table ≡ get_or designs (get_or positions i d) table
+    → text ≡ look_up_links s (members_at designs (take i positions))
+    → piece ≡ link_text (look_up s table) → next ≡ text ++ piece
+    → next ≡ look_up_links s (members_at designs (take (i + 1) positions))
+look_ups_more s designs positions i d table text next piece lt within at so_far is added =
+    added ∙ ap (λ (t : List ℕ). t ++ piece) so_far
+    ∙ ap (λ (p : List ℕ). look_up_links s (members_at designs (take i positions)) ++ p) (is ∙ sym (append-nil (link_text (look_up s table))))
+    ∙ sym (flat_map-append link_text (map (look_up s) (members_at designs (take i positions))) (look_up s table ∷ []))
+    ∙ ap (flat_map link_text) (sym (map-append (look_up s) (members_at designs (take i positions)) (table ∷ [])))
+    ∙ ap (λ (ts : List TableDesign). look_up_links s (members_at designs (take i positions) ++ ts)) (sym here)
+    ∙ ap (look_up_links s) (sym (flat_map-append (λ k. if_there (slice_get designs k)) (take i positions) (get_or positions i d ∷ [])))
+    ∙ ap (λ (ks : List ℕ). look_up_links s (members_at designs ks)) (sym (take_more positions i d lt))
+  where
+    here : members_at designs (get_or positions i d ∷ []) ≡ table ∷ []
+    here =
+        append-nil (if_there (slice_get designs (get_or positions i d)))
+        ∙ ap if_there (slice_get_read designs (length designs) (get_or positions i d) table refl within at)
+
+-- ---- the whole join
+pub no_tables : (s : Schema) (tables : List JoinedTable) (optional : List TableDesign) (names look_ups : List ℕ) → length tables ≡ 0
+    → names ≡ names_text (attribute_names s (universe_of s)) → look_ups ≡ look_up_links s optional
+    → joined_text names [] look_ups ≡ query_text (join_of s tables optional)
+no_tables s [] optional names look_ups none is are =
+    ap (λ (t : List ℕ). joined_text t [] look_ups) is
+    ∙ ap (joined_text (names_text (attribute_names s (universe_of s))) []) are
+no_tables s (first ∷ tables) optional names look_ups none is are = absurd (omega (arith, none))
+
+pub some_tables : (s : Schema) (tables : List JoinedTable) (optional : List TableDesign) (d : JoinedTable) (names look_ups : List ℕ)
+    → 0 < length tables → d ≡ get_or tables 0 d → names ≡ names_text (attribute_names s (universe_of s))
+    → look_ups ≡ look_up_links s optional
+    → joined_text names (quoted_name d.name) (flat_map link_text (links s (attributes d.scheme) (drop 1 tables)) ++ look_ups)
+    ≡ query_text (join_of s tables optional)
+some_tables s [] optional d names look_ups some at is are = absurd (omega (arith, some))
+some_tables s (table ∷ tables) optional d names look_ups some at is are =
+    ap (λ (t : List ℕ). joined_text t (quoted_name d.name) (flat_map link_text (links s (attributes d.scheme) tables) ++ look_ups)) is
+    ∙ ap (λ (t : JoinedTable). joined_text listed (quoted_name t.name) (flat_map link_text (links s (attributes t.scheme) tables) ++ look_ups)) at
+    ∙ ap (joined_text listed (quoted_name table.name))
+    (ap (λ (t : List ℕ). flat_map link_text (links s (attributes table.scheme) tables) ++ t) are
+    ∙ sym (flat_map-append link_text (links s (attributes table.scheme) tables) (map (look_up s) optional)))
+  where
+    listed : List ℕ
+    listed = names_text (attribute_names s (universe_of s))

@@ -1,4 +1,4 @@
-pub mod CreatedLemmas
+pub mod FilledLemmas
 pub mod ItemLemmas
 pub mod JoiningLemmas
 pub mod ListingLemmas

@@ -1,5 +1,5 @@
 -- Lists of items, as values and as texts.
-use Rattle.std.proofs.Common.{◌≡◌, ◌<◌, ◌+◌, ℕ, zero, suc, Bool, true, false, not, List, [], ◌∷◌, ◌++◌, length, get_or, map, refl, sym, ap, ◌∙◌, inl, inr, append_assoc, append-nil, arith}
+use Rattle.std.proofs.Common.{◌≡◌, ◌<◌, ℕ, zero, suc, Bool, true, false, not, List, [], ◌∷◌, ◌++◌, length, get_or, map, refl, sym, ap, ◌∙◌, inl, inr, append_assoc, append-nil, arith}
 use Rattle.std.proofs.lemmas.Bool.{cases_Bool, true≢false}
 use Rattle.std.proofs.lemmas.Bool.Decides.{nat_tests}
 use Rattle.std.specs.Fmt.{decimal}
@@ -10,33 +10,24 @@ use Rattle.attr_sets.proofs.AttributesLemmas.{count_below-le}
 use Rattle.dep_model.specs.Projections.{members_below}
 use Rattle.dep_model.proofs.SchemeLemmas.{members_below-none, members_below-outside, members_below-at, length-members_below}
 use Rattle.sql_syntax.specs.Names.{separator, comma_list, is_not_empty}
+use Rattle.sql_syntax.proofs.ListLemmas.{comma_list-map}
 use Rattle.sql_syntax.specs.Syntax.{Column, column, Item, own, named}
 use Rattle.sql_syntax.specs.Printing.{column_text, item_text, group_text, query_text, selected_text}
 use Rattle.schema_model.specs.declared.naming.Naming.{Naming}
 use Rattle.schema_model.specs.Schemas.{Schema}
 use Rattle.schema_model.specs.Schemas.{width_of, universe_of}
 use Rattle.schema_printer.specs.Spelling.{spelling}
-use Rattle.std.proofs.lemmas.List.FromFn.{map-range_with_len_more}
-use Rattle.std.proofs.lemmas.List.{map-id}
-use Rattle.std.specs.List.{range_with_len}
 use Rattle.sql_check_laws.proofs.LawLemmas.{nil_not_empty}
 use Rattle.sql_check.specs.Columns.{named_column, column_at, group_name, items_on, groups_made}
 use Rattle.sql_check.specs.Checks.{has_members, line_item, count_column, integer_query, missing_query}
 use Rattle.sql_scripts.specs.declared.unpaired.Counted.{Counted}
 use Rattle.sql_scripts.specs.declared.unpaired.Counted.TheVariants.{First, Second, Both}
-use Rattle.sql_scripts.specs.Listing.{counts_of, missing_tests}
+use Rattle.sql_scripts.specs.declared.missing.Asked.TheVariants.{Missing}
+use Rattle.sql_scripts.specs.Listing.{counts_of, tests_at}
 use Rattle.sql_scripts.specs.Checking.{integer_check_text, missing_text, check_line}
 use Rattle.sql_scripts.proofs.ItemLemmas.{tests_are}
 
 -- ---- lists of a function's values
-flat_map-map : {X Y : Type 0} (f : Y → List ℕ) (g : X → Y) (xs : List X) → flat_map f (map g xs) ≡ flat_map (λ x. f (g x)) xs
-flat_map-map f g [] = refl
-flat_map-map f g (x ∷ xs) = ap (λ (t : List ℕ). f (g x) ++ t) (flat_map-map f g xs)
-
-pub comma_list-map : {X Y : Type 0} (f : Y → List ℕ) (g : X → Y) (xs : List X) → comma_list f (map g xs) ≡ comma_list (λ x. f (g x)) xs
-comma_list-map f g [] = refl
-comma_list-map f g (x ∷ xs) = ap (λ (t : List ℕ). f (g x) ++ t) (flat_map-map (λ y. separator ++ f y) g xs)
-
 pub not_empty-map : {X Y : Type 0} (g : X → Y) (xs : List X) → is_not_empty (map g xs) ≡ is_not_empty xs
 not_empty-map g [] = refl
 not_empty-map g (x ∷ xs) = refl
@@ -149,7 +140,7 @@ one_item table item clause = ap (λ (t : List ℕ). selected_text false t table 
 
 abbrev pub missing_selected : Schema → List ℕ → List ℕ → List ℕ
 missing_selected s table ks =
-    selected_text false (comma_list item_text (items_on s (codes "r") (universe_of s))) table (codes "r") (codes " WHERE " ++ missing_tests s ks)
+    selected_text false (comma_list item_text (items_on s (codes "r") (universe_of s))) table (codes "r") (codes " WHERE " ++ tests_at s Missing ks)
 
 pub missing_line : (s : Schema) (table : List ℕ) (ks : List ℕ) → is_not_empty ks ≡ true
     → codes "-- no value is missing\n" ++ (missing_selected s table ks ++ codes ";\n") ≡ missing_text s table ks

@@ -1,8 +1,8 @@
 -- The queries that count what breaks a rule, as texts.
-use Rattle.std.proofs.Common.{◌≡◌, ◌+◌, ℕ, Bool, true, false, ◌||◌, Some, None, List, [], ◌∷◌, ◌++◌, map, sym, ap, ◌∙◌, inl, inr, append-nil}
+use Rattle.std.proofs.Common.{◌≡◌, ℕ, Bool, true, false, ◌||◌, Some, None, List, [], ◌∷◌, ◌++◌, sym, ap, ◌∙◌, inl, inr, append-nil}
 use Rattle.std.proofs.lemmas.Bool.{cases_Bool}
 use Rattle.std.specs.Prelude.{if◌then◌else◌, codes, option_and_then}
-use Rattle.attr_sets.specs.Attributes.{Attributes, below, union, difference, count_below}
+use Rattle.attr_sets.specs.Attributes.{Attributes, below, union, difference}
 use Rattle.attr_sets.specs.Sets.{is_subset}
 use Rattle.schema_model.specs.Names.{quotes_doubled}
 use Rattle.schema_model.specs.Schemas.{Schema}
@@ -15,7 +15,7 @@ use Rattle.sql_syntax.specs.Printing.{item_text, group_text, in_brackets, select
 use Rattle.relation_queries.specs.Queries.{several, unpaired}
 use Rattle.sql_check.specs.Columns.{column_at, columns_on, group_name, groups_made}
 use Rattle.sql_check.specs.Checks.{has_members, values_query}
-use Rattle.sql_measure.specs.Measures.{keys_on, rows_query, counted_rows, classes_query, groups_query, change_query, first_of_four, second_of_four, third_of_four, fourth_of_four, counts_query, four_counts, pairs_query, lack_query, totals_query, query_of, measure_query}
+use Rattle.sql_measure.specs.Measures.{keys_on, rows_query, counted_rows, classes_query, groups_query, change_query, first_of_four, second_of_four, third_of_four, counts_query, four_counts, pairs_query, lack_query, totals_query, query_of, measure_query}
 use Rattle.sql_scripts.specs.Checking.{breaches_text, check_line}
 use Rattle.sql_scripts.specs.Listing.{items_of}
 use Rattle.sql_scripts.specs.declared.listing.Listed.TheVariants.{Group, ClassGroup}

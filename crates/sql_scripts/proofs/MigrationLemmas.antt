@@ -5,16 +5,13 @@ use Rattle.std.proofs.lemmas.List.Folds.{flat_map-map}
 use Rattle.std.specs.List.{flat_map}
 use Rattle.std.specs.Prelude.{codes}
 use Rattle.schema_model.specs.Schemas.{Schema}
-use Rattle.ddl_text.specs.Ddl.{ddl_text}
-use Rattle.ddl_text.specs.Designs.{ReferToEarlier}
+use Rattle.ddl_text.specs.Ddl.{ddl_text, tables_made}
 use Rattle.ddl_text.specs.declared.table.TableDesign.{TableDesign}
 use Rattle.sql_syntax.specs.Syntax.{Query, except}
 use Rattle.sql_syntax.specs.Printing.{query_text, selected_text}
 use Rattle.sql_syntax.specs.Statements.{remark, begin, commit, create_from, create_view, insert_all, statement_text, script_text}
-use Rattle.sql_migrate.specs.Created.{tables_made}
 use Rattle.sql_migrate.specs.Script.{copy_name, view_name, test_name, copy_query, fill, view_query, width_query, table_rows, viewed_rows, count_of, testing, work}
 use Rattle.sql_scripts.specs.Migrating.{opening_text, fill_text, gained_text, width_text, test_words, count_text, test_end, testing_text, migrate_text}
-use Rattle.sql_scripts.proofs.CreatedLemmas.{tables_printed}
 
 -- ---- the test
 count_printed : (p q : Query) → statement_text (insert_all test_name (count_of (except p q))) ≡ count_text (query_text p ++ codes " EXCEPT " ++ query_text q)
@@ -45,18 +42,18 @@ test_printed s table =
     parts w a b = simp (append_assoc)
 
 -- ---- the whole
-pub migration_printed : (s : Schema) (table : List ℕ) (tables : List TableDesign) (ddl : List ℕ) → ReferToEarlier tables → ddl ≡ ddl_text s tables
+pub migration_printed : (s : Schema) (table : List ℕ) (tables : List TableDesign) (ddl : List ℕ) → ddl ≡ ddl_text s tables
     → opening_text s table ++ ddl ++ flat_map (fill_text s) tables ++ statement_text (create_view view_name (view_query s tables))
     ++ testing_text s table
     ≡ migrate_text s table tables
-migration_printed s table tables ddl earlier is =
+migration_printed s table tables ddl is =
     let after = create_view view_name (view_query s tables) ∷ testing s table in
     let first = statement_text (create_from copy_name (copy_query s table)) in
     let made = script_text (tables_made s tables tables) in
     let fills = flat_map (fill_text s) tables in
     let words = statement_text (remark (codes "all of it or nothing, where the first error ends it: psql -v ON_ERROR_STOP=1, sqlite3 -bail")) in
     let shown = statement_text (create_view view_name (view_query s tables)) in
-    ap (λ (d : List ℕ). opening_text s table ++ d ++ fills ++ shown ++ testing_text s table) (is ∙ sym (tables_printed s tables earlier))
+    ap (λ (d : List ℕ). opening_text s table ++ d ++ fills ++ shown ++ testing_text s table) is
     ∙ ap (λ (t : List ℕ). opening_text s table ++ made ++ fills ++ shown ++ t) (test_printed s table)
     ∙ parts words (statement_text begin) first made fills (statement_text (create_view view_name (view_query s tables))) (script_text (testing s table)) (statement_text commit)
     ∙ ap (λ (t : List ℕ). words ++ (statement_text begin ++ t)) (sym

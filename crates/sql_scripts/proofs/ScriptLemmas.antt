@@ -1,6 +1,7 @@
 -- What the queries of the scripts give, over the relations of a schema.
 use Rattle.std.proofs.Common.{◌≡◌, ◌<◌, ℕ, Option, Some, None, List, [], ◌∷◌, length, get_or, map, refl, sym, subst}
 use Rattle.std.specs.Prelude.{◌↔◌, All, MatchOption, ⊤}
+use Rattle.std.proofs.lemmas.List.Elements.{All-filter}
 use Rattle.attr_sets.specs.Attributes.{Attributes, below}
 use Rattle.attr_sets.specs.Sets.{attributes}
 use Rattle.schema_model.specs.Schemas.{Schema}
@@ -9,6 +10,8 @@ use Rattle.dep_model.specs.Projections.{IsLossless}
 use Rattle.schema_model.specs.Schemas.{width_of, theory_of, deps_of, LegalFor}
 use Rattle.dep_model.specs.Tuples.{Relation, IsOver}
 use Rattle.dep_model.proofs.DepLemmas.{dependencies_all-from}
+use Rattle.optional_tables.specs.LookUps.{complete_tuples, misses_none}
+use Rattle.ddl_text.specs.Designs.{keyed}
 use Rattle.ddl_text.specs.declared.table.TableDesign.{TableDesign}
 use Rattle.relation_queries.specs.Queries.{TableQuery, StoredTable, breaches_of}
 use Rattle.relation_queries.specs.Meanings.{GivesNone}
@@ -53,7 +56,9 @@ nothing_breaks s r over = (to, from)
 
 -- ---- plans
 pub fills_tables : (s : Schema) (designs : List TableDesign) → FillsTables s designs
-fills_tables s designs r legal design h u = values_given (width_of s) (attributes design.scheme) r u legal.over
+fills_tables s designs missing r legal design h u =
+    values_given (width_of s) (attributes design.scheme) (complete_tuples missing (keyed design) r) u
+    (All-filter (misses_none missing (attributes design.key)) (λ t. length t ≡ width_of s) r legal.over)
 
 schemes_are : (designs : List TableDesign) → map (λ (table : StoredTable). table.scheme) (stored_tables designs) ≡ map (λ (design : TableDesign). attributes design.scheme) designs
 schemes_are [] = refl

@@ -7,12 +7,14 @@ use Rattle.schema_model.specs.Columns.{is_plain_type}
 use Rattle.dep_model.specs.Projections.{members_below}
 use Rattle.schema_model.specs.Schemas.{width_of}
 use Rattle.sql_syntax.specs.Printing.{condition_text, item_text}
-use Rattle.sql_syntax.specs.Syntax.{is_missing, attribute, column, Item, own, named}
-use Rattle.sql_check.specs.Columns.{name_at, type_at, compared, named_column, column_at, numbered_name, numbered_group}
+use Rattle.sql_syntax.specs.Syntax.{Condition, is_missing, is_present, attribute, column, Item, own, named}
+use Rattle.sql_check.specs.Columns.{name_at, type_at, compared, named_column, numbered_name, numbered_group}
 use Rattle.sql_migrate.specs.Moving.{copied_column}
 use Rattle.sql_check.specs.Checks.{first_count, second_count, count_of_both}
 use Rattle.sql_scripts.specs.declared.listing.Listed.{Listed}
 use Rattle.sql_scripts.specs.declared.listing.Listed.TheVariants.{Compared, Copied, Read, Distinct, GroupMade, Group, GroupShown, ClassGroup}
+use Rattle.sql_scripts.specs.declared.missing.Asked.{Asked}
+use Rattle.sql_scripts.specs.declared.missing.Asked.TheVariants.{Missing, Present}
 use Rattle.sql_scripts.specs.declared.unpaired.Counted.{Counted}
 use Rattle.sql_scripts.specs.declared.unpaired.Counted.TheVariants.{First, Second, Both}
 
@@ -46,14 +48,22 @@ counts_of Second = second_count
 counts_of Both = count_of_both
 
 -- ---- missing values
--- whether the value of an attribute is missing
-unfoldable pub missing_test : Schema → ℕ → List ℕ
-missing_test s k = condition_text (is_missing (column (column_at s (codes "r") k)))
+-- whether the value of a name is missing in the user's table, or stands in its copy
+abbrev pub test_with : Asked → List ℕ → Condition
+test_with Missing name = is_missing (column (named_column (codes "r") name))
+test_with Present name = is_present (column (named_column (codes "o") name))
 
--- the same of several attributes
-abbrev pub missing_tests : Schema → List ℕ → List ℕ
-missing_tests s [] = []
-missing_tests s (k ∷ ms) = missing_test s k ++ flat_map (λ m. codes " OR " ++ missing_test s m) ms
+unfoldable pub test_at : Schema → Asked → ℕ → List ℕ
+test_at s asked k = condition_text (test_with asked (name_at s k))
+
+-- whether one is missing, or all stand there
+abbrev pub between : Asked → List ℕ
+between Missing = codes " OR "
+between Present = codes " AND "
+
+abbrev pub tests_at : Schema → Asked → List ℕ → List ℕ
+tests_at s asked [] = []
+tests_at s asked (k ∷ ms) = test_at s asked k ++ flat_map (λ m. between asked ++ test_at s asked m) ms
 
 -- ---- integers
 -- whether the value of a column, by its text, is not the text of the integer that it is cast to

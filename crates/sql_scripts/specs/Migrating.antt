@@ -3,9 +3,11 @@
 use Rattle.std.specs.Prelude.{◌↔◌, ℕ, List, ◌++◌, map, codes, Contains}
 use Rattle.attr_sets.specs.Sets.{attributes}
 use Rattle.schema_model.specs.Schemas.{Schema}
-use Rattle.dep_model.specs.Projections.{ordered_projection, IsLossless}
+use Rattle.dep_model.specs.Projections.{IsLossless}
 use Rattle.schema_model.specs.Schemas.{width_of, theory_of, LegalFor}
 use Rattle.dep_model.specs.Tuples.{Tuple, Relation}
+use Rattle.optional_tables.specs.LookUps.{Missing, complete_tuples, rows_for}
+use Rattle.ddl_text.specs.Designs.{keyed}
 use Rattle.ddl_text.specs.declared.table.TableDesign.{TableDesign}
 use Rattle.sql_syntax.specs.Printing.{item_text, query_text}
 use Rattle.sql_syntax.specs.Statements.{remark, begin, create_from, statement_text, script_text}
@@ -69,14 +71,15 @@ stored_of table = record { name = table.name; scheme = attributes table.scheme }
 abbrev pub stored_tables : List TableDesign → List StoredTable
 stored_tables tables = map stored_of tables
 
--- what fills each table is its ordered projection
+-- what fills each table, from the tuples that miss no value of its key, are its rows
 abbrev pub FillsTables : Schema → List TableDesign → Type 0
 FillsTables s designs =
-    (r : Relation) → LegalFor s r → (design : TableDesign) → Contains designs design
-    → (u : Tuple) → IsGiven (width_of s) (rows_of (stored_of design)) r u
-    ↔ Contains (ordered_projection (attributes design.scheme) r) u
+    (missing : Missing) (r : Relation) → LegalFor s r → (design : TableDesign) → Contains designs design
+    → (u : Tuple) → IsGiven (width_of s) (rows_of (stored_of design)) (complete_tuples missing (keyed design) r) u
+    ↔ Contains (rows_for missing r (keyed design)) u
 
--- where the plan loses nothing, the view on a legal relation is this relation, and neither lacks a row
+-- where the plan loses nothing, the join of all tables, which is the view where none of them is optional, is on a legal
+-- relation this relation, and neither lacks a row
 pub record ViewIs (s : Schema) (designs : List TableDesign) (r : Relation) : Type 0 where
   pub rows : (t : Tuple) → IsGiven (width_of s) (plan_join (stored_tables designs)) r t ↔ Contains r t
   pub table_lacks : GivesNone (width_of s) (view_beyond_table view_name (stored_tables designs)) r

@@ -2,9 +2,9 @@ ghost use Rattle.std.specs.Prelude.{◌≡◌, ◌<◌, ◌++◌, codes, IfOk};
 ghost use Rattle.attr_sets.specs.Sets.{attributes};
 ghost use Rattle.dep_model.specs.Projections.{members_below};
 ghost use Rattle.schema_model.specs.Schemas.{width_of};
-ghost use Rattle.sql_syntax.specs.Names.{comma_list, name_list, quoted_name};
+ghost use Rattle.sql_syntax.specs.Names.{attribute_names, comma_list, quoted_name};
 ghost use Rattle.sql_syntax.specs.Printing.{item_text, names_text};
-ghost use Rattle.sql_migrate.specs.Moving.{attribute_names, moved, moved_at, moved_on};
+ghost use Rattle.sql_migrate.specs.Moving.{moved, moved_at, moved_on};
 ghost use Rattle.sql_scripts.specs.Migrating.{moved_text};
 
 use crate::integers::is_integer;
@@ -21,12 +21,6 @@ use std::alloc::Global;
 pub fn names_text(alloc: Global, schema: &Schema, set: AttrSet) -> Result<Vec<u8>, OutOfMemory>
     ensures text { IfOk result (λ text. text.items
         ≡ names_text (attribute_names schema.now (attributes set))) }
-{
-    name_list(alloc, schema, set)
-}
-
-fn name_list(alloc: Global, schema: &Schema, set: AttrSet) -> Result<Vec<u8>, OutOfMemory>
-    ensures text { IfOk result (λ text. text.items ≡ name_list schema.now (attributes set)) }
 {
     let mut text = Vec::new(alloc);
     add_name_list(&mut text, schema, set)?;

@@ -16,6 +16,7 @@
 mod checking;
 mod columns;
 mod counted;
+mod filling;
 mod integers;
 mod joining;
 mod listing;

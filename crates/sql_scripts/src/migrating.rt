@@ -10,13 +10,14 @@ ghost use Rattle.sql_syntax.specs.Statements.{create_view, statement_text};
 ghost use Rattle.sql_evaluation.specs.Cells.{Cell};
 ghost use Rattle.sql_evaluation.specs.Running.{State, Cast, Fails, engine_at, ended, stopped, outcome};
 ghost use Rattle.sql_check_laws.specs.HeldRelations.{Holds};
-ghost use Rattle.sql_migrate.specs.Script.{copy_query, fill_query, view_name, view_query, width_query, table_rows, viewed_rows, migration};
+ghost use Rattle.sql_migrate.specs.Script.{copy_query, view_name, view_query, width_query, table_rows, viewed_rows, migration};
 ghost use Rattle.sql_migrate_laws.specs.Moved.{HasMoved, LeavesOthers};
 ghost use Rattle.sql_migrate_laws.specs.Ending.{IsSoundRun};
 ghost use Rattle.sql_scripts.specs.Naming.{is_table_name, quoted_table};
 ghost use Rattle.sql_scripts.specs.Migrating.{opening_text, fill_text, lacked_text, gained_text, width_text, test_words, count_text, test_end, testing_text, migrate_text, FillsTables, ViewIsTable};
 
-use crate::columns::{moved_columns, names_text, quoted_name};
+use crate::columns::moved_columns;
+use crate::filling::add_fills;
 use crate::joining::view_text;
 use crate::listing::{Listed, items_text};
 use crate::naming::quote_table;
@@ -30,12 +31,13 @@ use sql_migrate::Move;
 use sql_syntax::add_listed;
 use std::alloc::Global;
 
-/// A script that makes the tables of a design and fills them from a table, makes a view on their join, and
-/// undoes all of this where the view is not the table. In an engine that holds a relation as this table, a run
-/// without an error has moved it into the tables, from a table without other columns, and left all else as it was; any
-/// other run has changed nothing. Over a legal relation
-/// what fills each table is its ordered projection, and where the plan loses nothing the join is the relation; then
-/// a run ends without an error, where the engine refuses nothing but what breaks a rule of a table.
+/// A script that makes the tables of a design and fills them from a table, each from the rows that miss no value of
+/// its key; makes a view on their join, from which it looks up the optional ones; and undoes all of this where the view
+/// is not the table. In an engine that holds a relation as this table, a run without an error has moved it into the
+/// tables, from a table without other columns, and left all else as it was; any other run has changed nothing. Over a
+/// legal relation what fills each table are its rows, and where the plan loses nothing the join of all is the relation;
+/// where the design can be read back, a run over rows that are tidy ends without an error, where the engine refuses
+/// nothing but what breaks a rule of a table.
 pub fn migrate_script(
     alloc: Global,
     schema: &Schema,
@@ -145,48 +147,6 @@ fn copy_text(alloc: Global, schema: &Schema, table: &[u8]) -> Result<Vec<u8>, Ou
     let set = AttrSet::full(schema.width());
     let items = items_text(alloc, schema, set, Listed::Copied)?;
     selected_text(alloc, false, &items, table, b"r", b"")
-}
-
-// Adds the statements that fill the tables of a design.
-fn add_fills(
-    alloc: Global,
-    text: &mut Vec<u8>,
-    schema: &Schema,
-    designs: &[TableDesign],
-) -> Result<(), OutOfMemory>
-    ensures added { OnOk result (text.new.items
-        ≡ text.old.items ++ flat_map (fill_text schema.now) designs.now) }
-{
-    for design in designs {
-        add(text, &fill_text(alloc, schema, design)?)?;
-    }
-    Ok(())
-}
-
-// The statement that fills a table.
-#[tactic(auto, unfolding(sql_migrate::specs::Script::fill, sql_syntax::specs::Statements::statement_text))]
-fn fill_text(alloc: Global, schema: &Schema, design: &TableDesign) -> Result<Vec<u8>, OutOfMemory>
-    ensures text { IfOk result (λ text. text.items ≡ fill_text schema.now design.now) }
-{
-    let mut text = Vec::new(alloc);
-    add(&mut text, b"INSERT INTO ")?;
-    add(&mut text, &quoted_name(alloc, &design.name)?)?;
-    add(&mut text, b" (")?;
-    add(&mut text, &names_text(alloc, schema, design.scheme)?)?;
-    add(&mut text, b") ")?;
-    add(&mut text, &fill_query(alloc, schema, design.scheme)?)?;
-    add(&mut text, b";\n")?;
-    Ok(text)
-}
-
-// The values of the copy on a set, each once.
-#[tactic(auto, unfolding(sql_migrate::specs::Script::fill_query))]
-fn fill_query(alloc: Global, schema: &Schema, set: AttrSet) -> Result<Vec<u8>, OutOfMemory>
-    ensures text { IfOk result
-        (λ text. text.items ≡ query_text (fill_query schema.now (attributes set))) }
-{
-    let items = moved_columns(alloc, schema, set, Move::Entering)?;
-    selected_text(alloc, true, &items, b"\"t0\"", b"o", b"")
 }
 
 // The statement that makes the view.

@@ -1,40 +1,48 @@
-ghost use Rattle.std.specs.Prelude.{◌≡◌, ◌<◌, length, reverse, not, [], ◌∷◌, get_or, IfOk};
+ghost use Rattle.std.specs.Prelude.{◌≡◌, ◌<◌, length, not, [], ◌∷◌, get_or, IfOk};
 ghost use Rattle.std.specs.List.{remove};
 ghost use Rattle.attr_sets.specs.Attributes.{none};
 ghost use Rattle.attr_sets.specs.Sets.{attributes, is_disjoint};
 ghost use Rattle.dep_model.specs.JoinOrders.{put_first, joined_next};
-ghost use Rattle.sql_migrate.specs.Script.{joined_tables, scheme_of_joined, view_order};
+ghost use Rattle.sql_migrate.specs.Script.{filled_tables, joined_tables, scheme_of_joined, view_order};
 ghost use Rattle.sql_migrate.specs.declared.joining.JoinedTable.{JoinedTable};
 
 use attr_sets::AttrSet;
 use ddl_text::TableDesign;
 use dep_model::OutOfMemory;
+use optional_tables::is_optional;
+use schema_model::Schema;
 use sql_migrate::JoinedTable;
 use std::alloc::Global;
 
-// The tables of a design in the order of the view.
-pub fn view_order(alloc: Global, designs: &[TableDesign]) -> Result<Vec<JoinedTable>, OutOfMemory>
-    ensures order { IfOk result (λ order. order.items ≡ view_order (joined_tables designs.now)) }
+// The tables of a design that are not optional.
+pub fn filled_tables(
+    alloc: Global,
+    schema: &Schema,
+    designs: &[TableDesign],
+) -> Result<Vec<JoinedTable>, OutOfMemory>
+    ensures tables { IfOk result
+        (λ tables. tables.items ≡ joined_tables (filled_tables schema.now designs.now)) }
 {
-    let left = reversed(alloc, designs)?;
-    joined_next(alloc, left)
-}
-
-// The tables from the last to the first.
-fn reversed(alloc: Global, designs: &[TableDesign]) -> Result<Vec<JoinedTable>, OutOfMemory>
-    ensures tables { IfOk result (λ order. order.items ≡ reverse (joined_tables designs.now)) }
-{
-    let mut order = Vec::new(alloc);
+    let mut tables = Vec::new(alloc);
     for design in designs {
-        order.insert(
-            0,
-            JoinedTable {
+        let optional = is_optional(schema.nullable(), design.keyed());
+        if !optional {
+            tables.push(JoinedTable {
                 name: design.name,
                 scheme: design.scheme,
-            },
-        )?;
+            })?;
+        }
     }
-    Ok(order)
+    Ok(tables)
+}
+
+// Tables in the order of the view.
+pub fn view_order(alloc: Global, tables: Vec<JoinedTable>) -> Result<Vec<JoinedTable>, OutOfMemory>
+    ensures order { IfOk result (λ order. order.items ≡ view_order tables.items) }
+{
+    let mut left = tables;
+    left.reverse();
+    joined_next(alloc, left)
 }
 
 // The tables, each time the first of those left that shares an attribute with those before it.

@@ -1,6 +1,7 @@
 -- Lists with a comma and a blank between: one item more at the end.
-use Rattle.std.proofs.Common.{◌≡◌, ◌<◌, ◌+◌, ℕ, zero, suc, Bool, true, List, [], ◌∷◌, ◌++◌, length, get_or, take, refl, sym, ap, ◌∙◌, arith, append_assoc, append-nil}
+use Rattle.std.proofs.Common.{◌≡◌, ◌<◌, ◌+◌, ℕ, zero, suc, Bool, true, List, [], ◌∷◌, ◌++◌, length, get_or, map, take, refl, sym, ap, ◌∙◌, arith, append_assoc, append-nil}
 use Rattle.std.specs.Prelude.{if◌then◌else◌, nat_lt}
+use Rattle.std.proofs.lemmas.List.Folds.{flat_map-map}
 use Rattle.std.proofs.lemmas.Bool.Decides.{nat_tests}
 use Rattle.std.proofs.lemmas.List.{take_more, flat_map_more}
 use Rattle.sql_syntax.specs.Names.{separator, comma_list, is_not_empty}
@@ -19,6 +20,11 @@ pub not_empty_before : {X : Type 0} (xs : List X) (n : ℕ) → n < length xs �
 not_empty_before xs zero lt = refl
 not_empty_before [] (suc n) lt = absurd (omega (arith, lt))
 not_empty_before (x ∷ xs) (suc n) lt = let not_empty : nat_lt 0 (suc n) ≡ true = grind (arith, nat_tests) in sym not_empty
+
+-- the texts of a function's values
+pub comma_list-map : {X Y : Type 0} (f : Y → List ℕ) (g : X → Y) (xs : List X) → comma_list f (map g xs) ≡ comma_list (λ x. f (g x)) xs
+comma_list-map f g [] = refl
+comma_list-map f g (x ∷ xs) = ap (λ (t : List ℕ). f (g x) ++ t) (flat_map-map (λ y. separator ++ f y) g xs)
 
 -- two parts are added
 pub append_two : (old a b mid new : List ℕ) → mid ≡ old ++ a → new ≡ mid ++ b → new ≡ old ++ (a ++ b)

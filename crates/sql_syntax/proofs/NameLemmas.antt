@@ -1,11 +1,15 @@
 -- Lists of quoted names: one more at the end.
-use Rattle.std.proofs.Common.{◌≡◌, ◌+◌, ℕ, Bool, true, false, ◌||◌, List, [], ◌∷◌, ◌++◌, get_or, Some, refl, sym, ap, ◌∙◌}
+use Rattle.std.proofs.Common.{◌≡◌, ℕ, Bool, true, false, ◌||◌, List, [], ◌∷◌, ◌++◌, get_or, Some, refl, sym, ap, ◌∙◌}
 use Rattle.std.specs.Prelude.{if◌then◌else◌, slice_get}
 use Rattle.std.proofs.lemmas.Option.{get_or_from_slice_get}
 use Rattle.schema_model.specs.Schemas.{Schema}
 use Rattle.schema_model.specs.Schemas.{names_of}
-use Rattle.sql_syntax.specs.Names.{separator, comma_list, quoted_name, is_not_empty}
-use Rattle.sql_syntax.proofs.ListLemmas.{comma_list-push, not_empty_pushed, append_two}
+use Rattle.attr_sets.specs.Attributes.{Attributes}
+use Rattle.schema_printer.specs.Printing.{members_from}
+use Rattle.sql_syntax.specs.Names.{separator, comma_list, quoted_name, is_not_empty, attribute_names}
+use Rattle.sql_syntax.specs.Printing.{name_text, names_text}
+use Rattle.sql_syntax.specs.Syntax.{attribute}
+use Rattle.sql_syntax.proofs.ListLemmas.{comma_list-push, comma_list-map, not_empty_pushed, append_two}
 
 -- ---- names
 pub or_true : (b : Bool) → (b || true) ≡ true
@@ -26,9 +30,13 @@ comma_list-next xs x name any_written before text next so_far is_some is added =
     (if is_not_empty xs then separator ++ quoted_name n else quoted_name n))) (sym is)
     ∙ ap (λ (t : List ℕ). before ++ t) (sym (comma_list-push quoted_name xs x))
 
-pub not_empty_more : (first : Bool) (xs : List (List ℕ)) (x : List ℕ) → true ≡ (first || is_not_empty (xs ++ x ∷ []))
+pub not_empty_more : {X : Type 0} (first : Bool) (xs : List X) (x : X) → true ≡ (first || is_not_empty (xs ++ x ∷ []))
 not_empty_more first xs x = sym (ap (λ (b : Bool). first || b) (not_empty_pushed xs x) ∙ or_true first)
 
 pub name_is : (s : Schema) (k : ℕ) (name : List ℕ) → slice_get (names_of s) k ≡ Some name
     → get_or (names_of s) k [] ≡ name
 name_is s k name at = get_or_from_slice_get (names_of s) k name [] at
+
+-- the names of a set's attributes, as names of columns, and quoted
+pub names_listed : (s : Schema) (x : Attributes) → names_text (attribute_names s x) ≡ comma_list quoted_name (members_from x 0 (names_of s))
+names_listed s x = comma_list-map name_text attribute (members_from x 0 (names_of s))

@@ -1,6 +1,6 @@
--- The definitions of sql_syntax, in reading order: queries as values and their texts, and the
--- same of statements.
+-- The definitions of sql_syntax, in reading order: queries as values, names in SQL, the texts of
+-- queries, and statements with theirs.
 pub mod Syntax
+pub mod Names
 pub mod Printing
 pub mod Statements
-pub mod Names

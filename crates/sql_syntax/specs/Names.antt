@@ -1,11 +1,12 @@
 -- Names in SQL: for all that prints statements.
-use Rattle.std.specs.Prelude.{ℕ, Bool, true, false, List, [], ◌∷◌, ◌++◌, codes}
+use Rattle.std.specs.Prelude.{ℕ, Bool, true, false, List, [], ◌∷◌, ◌++◌, map, codes}
 use Rattle.std.specs.List.{flat_map}
 use Rattle.attr_sets.specs.Attributes.{Attributes}
 use Rattle.schema_model.specs.Schemas.{Schema}
 use Rattle.schema_model.specs.Names.{quoted}
 use Rattle.schema_model.specs.Schemas.{names_of}
 use Rattle.schema_printer.specs.Printing.{members_from}
+use Rattle.sql_syntax.specs.Syntax.{ColumnName, attribute}
 
 -- what separates two items of a list
 abbrev pub separator : List ℕ
@@ -25,6 +26,6 @@ is_not_empty (x ∷ xs) = true
 abbrev pub quoted_name : List ℕ → List ℕ
 quoted_name name = quoted name
 
--- the quoted names of a set's attributes, ascending, with a comma and a blank between
-abbrev pub name_list : Schema → Attributes → List ℕ
-name_list s x = comma_list quoted_name (members_from x 0 (names_of s))
+-- the names of a set's attributes, ascending
+abbrev pub attribute_names : Schema → Attributes → List ColumnName
+attribute_names s x = map attribute (members_from x 0 (names_of s))

@@ -3,7 +3,7 @@ use Rattle.std.specs.Prelude.{ℕ, Bool, true, false, if◌then◌else◌, Optio
 use Rattle.std.specs.Fmt.{decimal}
 use Rattle.std.specs.List.{flat_map}
 use Rattle.sql_syntax.specs.Names.{comma_list, quoted_name}
-use Rattle.sql_syntax.specs.Syntax.{ColumnName, attribute, helper, Column, Scalar, column, as_text, as_integer, with_empty_text, number_zero, number_one, written_number, missing_value, count, sum, greatest, sum_product, less_sum, Condition, is_missing, differs, equals, exceeds, either, Item, own, named, unnamed, Clause, each_row, rows_where, group_where, groups_by, Link, by_columns, crosswise, Query, stored, select, union_all, except, joined, all_columns, one_row}
+use Rattle.sql_syntax.specs.Syntax.{ColumnName, attribute, helper, Column, Scalar, column, as_text, as_integer, with_empty_text, number_zero, number_one, written_number, missing_value, count, sum, greatest, sum_product, less_sum, Condition, is_missing, is_present, differs, equals, exceeds, either, both, Item, own, named, unnamed, Clause, each_row, rows_where, group_where, groups_by, Link, by_columns, left_by_columns, crosswise, Query, stored, select, union_all, except, joined, all_columns, one_row}
 
 -- a user's name stands in quotes
 abbrev pub name_text : ColumnName → List ℕ
@@ -31,10 +31,12 @@ scalar_text (less_sum x c) = scalar_text x ++ codes " - SUM(" ++ column_text c +
 
 abbrev pub condition_text : Condition → List ℕ
 condition_text (is_missing x) = scalar_text x ++ codes " IS NULL"
+condition_text (is_present x) = scalar_text x ++ codes " IS NOT NULL"
 condition_text (differs x y) = scalar_text x ++ codes " <> " ++ scalar_text y
 condition_text (equals x y) = scalar_text x ++ codes " = " ++ scalar_text y
 condition_text (exceeds x y) = scalar_text x ++ codes " > " ++ scalar_text y
 condition_text (either p q) = condition_text p ++ codes " OR " ++ condition_text q
+condition_text (both p q) = condition_text p ++ codes " AND " ++ condition_text q
 
 abbrev pub item_text : Item → List ℕ
 item_text (own c) = column_text c
@@ -63,6 +65,8 @@ names_text names = comma_list name_text names
 
 abbrev pub link_text : Link → List ℕ
 link_text (by_columns name columns) = codes " JOIN " ++ name ++ codes " USING (" ++ names_text columns ++ codes ")"
+link_text (left_by_columns name columns) =
+    codes " LEFT JOIN " ++ name ++ codes " USING (" ++ names_text columns ++ codes ")"
 link_text (crosswise name) = codes " CROSS JOIN " ++ name
 
 -- what is selected from a table and those that are joined to it: the texts of the parts

@@ -39,11 +39,15 @@ element_text (foreign_key names other) =
     codes "FOREIGN KEY (" ++ names_text names ++ codes ") REFERENCES " ++ other
     ++ codes " (" ++ names_text names ++ codes ")"
 
--- each on a line with two blanks before it, and with a comma after each that another follows
+-- what stands before an element on its line, after the end of the line before, if there is one
+abbrev pub opening : Bool → List ℕ
+opening any_before = if any_before then codes ",\n  " else codes "  "
+
+-- each on a line with two blanks before it, and with a comma after each that another follows; where others stand before
+-- them, from the comma after these on
 abbrev pub element_lines : Bool → List Element → List ℕ
 element_lines any_before [] = []
-element_lines any_before (e ∷ es) =
-    (if any_before then codes ",\n  " else codes "  ") ++ element_text e ++ element_lines true es
+element_lines any_before (e ∷ es) = opening any_before ++ element_text e ++ element_lines true es
 
 -- ---- statements
 unfoldable pub statement_text : Statement → List ℕ

@@ -35,10 +35,12 @@ pub data Scalar : Type 0 where
 -- a test of values
 pub data Condition : Type 0 where
   is_missing : Scalar → Condition
+  is_present : Scalar → Condition
   differs : Scalar → Scalar → Condition
   equals : Scalar → Scalar → Condition
   exceeds : Scalar → Scalar → Condition
   either : Condition → Condition → Condition
+  both : Condition → Condition → Condition
 
 -- what is selected: a column under its own name, or a value under a name or without one
 pub data Item : Type 0 where
@@ -55,10 +57,11 @@ pub data Clause : Type 0 where
   group_where : Condition → Clause
   groups_by : List Column → Option Condition → Clause
 
--- a stored table that is joined to what stands before it: by columns of these names, which both have, or
--- each row with each
+-- a stored table that is joined to what stands before it: by columns of these names, which both have; by such columns,
+-- where a row before it that has no match there stays, and misses the other values; or each row with each
 pub data Link : Type 0 where
   by_columns : List ℕ → List ColumnName → Link
+  left_by_columns : List ℕ → List ColumnName → Link
   crosswise : List ℕ → Link
 
 -- a query: a stored table, by its name as SQL has it; what is selected of a source under an alias,

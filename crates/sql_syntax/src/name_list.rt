@@ -1,6 +1,7 @@
 ghost use Rattle.std.specs.Prelude.{◌≡◌, ◌++◌, if◌then◌else◌, OnOk};
 ghost use Rattle.attr_sets.specs.Sets.{attributes};
-ghost use Rattle.sql_syntax.specs.Names.{separator, comma_list, quoted_name, name_list};
+ghost use Rattle.sql_syntax.specs.Names.{separator, comma_list, quoted_name, attribute_names};
+ghost use Rattle.sql_syntax.specs.Printing.{names_text};
 
 use attr_sets::AttrSet;
 use byte_texts::add;
@@ -10,7 +11,7 @@ use schema_model::{Name, Schema};
 /// Adds the quoted names of a set's attributes, ascending, with a comma and a blank between.
 pub fn add_name_list(text: &mut Vec<u8>, schema: &Schema, set: AttrSet) -> Result<(), OutOfMemory>
     ensures added { OnOk result (text.new.items ≡ text.old.items
-        ++ name_list schema.now (attributes set)) }
+        ++ names_text (attribute_names schema.now (attributes set))) }
 {
     let mut any_written = false;
     for attribute in 0..schema.width() {

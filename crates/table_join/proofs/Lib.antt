@@ -11,3 +11,5 @@ pub mod LentLemmas
 pub mod FoundLemmas
 pub mod PartLemmas
 pub mod AnswerLemmas
+pub mod LookUpLemmas
+pub mod PartnerLemmas

@@ -1,4 +1,3 @@
-mod PrintedTexts
 mod PartFiles
 mod MigratedFiles
 mod StatedReferences

@@ -3,15 +3,15 @@ use Rattle.std.proofs.Common.{◌≡◌, ◌+◌, ◌<◌, ◌≤◌, ◌==◌, 
 use Rattle.std.specs.Prelude.{◌⊎◌, if◌then◌else◌, All, AllPairs}
 use Rattle.std.specs.List.{slice_get, position_or_len}
 use Rattle.std.proofs.Math.ListN.{get_or-map}
-use Rattle.std.proofs.lemmas.Bool.{cases_Bool, cases_eq, and_from, and_parts, lt-ltb, ltb-true}
+use Rattle.std.proofs.lemmas.Bool.{cases_Bool, cases_eq, and_parts}
 use Rattle.std.proofs.lemmas.Bool.Decides.{nat_tests}
 use Rattle.std.proofs.lemmas.List.{append_assoc, append-nil, length-append, length-map, ext_get_or}
 use Rattle.std.proofs.lemmas.List.Sums.{position_or_len_is}
-use Rattle.attr_sets.specs.Attributes.{Attributes, below, count_below, IsSubset}
+use Rattle.attr_sets.specs.Attributes.{Attributes, count_below}
 use Rattle.attr_sets.proofs.AttributesLemmas.{count_below-before_member, same_at}
 use Rattle.csv_migrate.proofs.ProjectionLemmas.{column_count}
-use Rattle.csv_rows.specs.Columns.{with_columns, attribute_of_column, columns_of_header, columns_from, IsHeaderOf, ◌>>=◌}
-use Rattle.csv_rows.specs.Reading.{value_of, tuple_of, ClosedRowOf, AreFirstRows, PartOf, RowsOf, TableOf}
+use Rattle.csv_rows.specs.Columns.{with_columns, attribute_of_column, columns_of_header, columns_from, ◌>>=◌}
+use Rattle.csv_rows.specs.Reading.{value_of, tuple_of, ClosedRowOf, AreFirstRows, PartOf, TableOf}
 use Rattle.csv_rows.specs.Quotes.{open_record}
 use Rattle.csv_rows.specs.Records.{records_of}
 use Rattle.csv_rows.specs.declared.reading.TheConstants.{MOST_ROWS}
@@ -19,13 +19,11 @@ use Rattle.csv_rows.specs.declared.refusal.RowRefusal.{RowRefusal}
 use Rattle.csv_rows.proofs.HeaderLemmas.{named_after}
 use Rattle.dep_model.proofs.ListLemmas.{same_default}
 use Rattle.csv_rows.proofs.PrintedRows.{own_column, other_name}
-use Rattle.csv_rows.proofs.ReadingLemmas.{whole_count}
-use Rattle.table_laws.specs.Marks.{IsUnmarked}
-use Rattle.table_laws.proofs.PrintedTexts.{printed_closed, printed_records}
+use Rattle.csv_rows.proofs.PrintedTexts.{printed_closed, printed_records}
 use Rattle.dep_model.proofs.SchemeLemmas.{member_at}
 use Rattle.csv_text.specs.Rows.{rows_text}
-use Rattle.column_values.specs.Values.{FitsColumn, FitsColumns}
-use Rattle.schema_model.specs.Names.{same_name}
+use Rattle.column_values.specs.Values.{FitsColumn}
+use Rattle.schema_model.specs.Names.{IsName, same_name}
 use Rattle.dep_model.specs.OnSchemes.{value_in}
 use Rattle.dep_model.specs.Projections.{members_below}
 use Rattle.schema_model.specs.Schemas.{names_of, width_of, attribute_named, types_of, nullable_of}
@@ -223,18 +221,18 @@ row_is s x row t size within_limit typed =
 -- ---- the text
 -- a text of rows over a scheme that has an attribute, by what its header means
 rows_mean : (s : Schema) (x : Attributes) (rows : Relation) (Means : List (List ℕ) → Result (List ℕ) RowRefusal → Type 0)
-    → Means (members_from x 0 (names_of s)) (Ok (members_below (width_of s) x)) → All IsUnmarked (names_of s)
+    → Means (members_from x 0 (names_of s)) (Ok (members_below (width_of s) x)) → All IsName (names_of s)
     → 0 < count_below x (width_of s) → IsOver (count_below x (width_of s)) rows → All (FitsItsColumns s x) rows → length rows ≤ MOST_ROWS
     → TableOf s Means (open_record (rows_text (members_from x 0 (names_of s)) rows)) (records_of (rows_text (members_from x 0 (names_of s)) rows)) (Ok rows)
-rows_mean s x rows Means means unmarked not_empty over typed within_limit =
+rows_mean s x rows Means means named not_empty over typed within_limit =
     let names = names_of s in
     let header = members_from x 0 names in
     let columns = members_below (width_of s) x in
     let wide : All (λ row. 0 < length row) rows = λ k d h. omega (arith, over k d h, not_empty) in
     let long : 0 < length header = omega (arith, not_empty, column_count x names) in
-    let header_unmarked = members_each IsUnmarked x 0 names unmarked in
-    let records : records_of (rows_text header rows) ≡ header ∷ rows = printed_records header rows long header_unmarked wide in
-    let closed : open_record (rows_text header rows) ≡ None = printed_closed header rows long header_unmarked in
+    let header_named = members_each IsName x 0 names named in
+    let records : records_of (rows_text header rows) ≡ header ∷ rows = printed_records header rows long header_named wide in
+    let closed : open_record (rows_text header rows) ≡ None = printed_closed header rows long header_named in
     let first : AreFirstRows s columns None rows rows = record {
       within = omega arith;
       each =
@@ -243,34 +241,9 @@ rows_mean s x rows Means means unmarked not_empty over typed within_limit =
     subst (λ (rs : List (List (List ℕ))). TableOf s Means (open_record (rows_text header rows)) rs (Ok rows)) (sym records)
     (subst (λ (o : Option ℕ). TableOf s Means o (header ∷ rows) (Ok rows)) (sym closed) (Ok columns, means, (first, refl)))
 
-pub part_back : (s : Schema) (x : Attributes) (rows : Relation) → All IsUnmarked (names_of s)
+pub part_back : (s : Schema) (x : Attributes) (rows : Relation) → All IsName (names_of s)
     → 0 < count_below x (width_of s) → IsOver (count_below x (width_of s)) rows → All (FitsItsColumns s x) rows
     → length rows ≤ MOST_ROWS → PartOf s (rows_text (members_from x 0 (names_of s)) rows) (Ok rows)
-part_back s x rows unmarked not_empty over typed within_limit =
+part_back s x rows named not_empty over typed within_limit =
     rows_mean s x rows (λ fields found. found ≡ columns_of_header (names_of s) fields)
-    (sym (part_columns (names_of s) x s.valid.names_differ)) unmarked not_empty over typed within_limit
-
--- ---- all attributes
-all_members : (x : Attributes) (k : ℕ) (names : List (List ℕ)) → ((j : ℕ) → j < k + length names → x j ≡ true) → members_from x k names ≡ names
-all_members x k [] all = refl
-all_members x k (name ∷ names) all =
-    ap (λ (b : Bool). if b then name ∷ members_from x (k + 1) names else members_from x (k + 1) names) (all k (omega arith))
-    ∙ ap (λ (rest : List (List ℕ)). name ∷ rest) (all_members x (k + 1) names (λ j less. all j (omega (arith, less))))
-
-pub whole_back : (s : Schema) (rows : Relation) → All IsUnmarked (names_of s) → IsOver (width_of s) rows → FitsColumns s rows
-    → length rows ≤ MOST_ROWS → RowsOf s (rows_text (names_of s) rows) (Ok rows)
-whole_back s rows unmarked over fits within_limit =
-    let n = width_of s in
-    let names = names_of s in
-    let count : count_below (below n) n ≡ n = whole_count n (below n) (λ k m. m) n (omega arith) in
-    let covers : IsSubset (below n) (with_columns (members_below n (below n))) =
-    λ k m. named_members (below n) n k ∙ and_from (nat_lt k n) (below n k) m m in
-    let typed : All (FitsItsColumns s (below n)) rows =
-    λ i d l k column low is.
-    let small : k < n = ltb-true k n low in
-    subst (λ (c : ℕ). FitsColumn column (nullable_of s k) (value_at (get_or rows i d) c)) (sym (whole_count n (below n) (λ j m. m) k (omega (arith, small))))
-    (fits i d l k column is) in
-    subst (λ (header : List (List ℕ)). RowsOf s (rows_text header rows) (Ok rows))
-    (all_members (below n) 0 names (λ j less. lt-ltb j n (omega (arith, less))))
-    (rows_mean s (below n) rows (IsHeaderOf n names) (part_columns names (below n) s.valid.names_differ, covers) unmarked
-    (omega (arith, count, s.valid.names_not_empty)) (λ i d l. over i d l ∙ sym count) typed within_limit)
+    (sym (part_columns (names_of s) x s.valid.names_differ)) named not_empty over typed within_limit

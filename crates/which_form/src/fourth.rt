@@ -1,17 +1,15 @@
-ghost use Rattle.std.specs.Prelude.{◌≡◌, ℕ, true};
-ghost use Rattle.attr_sets.specs.Attributes.{difference, IsSubset, IsEmpty, IsFirstFrom};
+ghost use Rattle.std.specs.Prelude.{◌≡◌};
+ghost use Rattle.attr_sets.specs.Attributes.{IsSubset};
 ghost use Rattle.attr_sets.specs.Sets.{attributes};
 ghost use Rattle.dep_model.specs.Dependencies.{functional_part};
-ghost use Rattle.dep_model.specs.Keys.{IsPartOn};
 ghost use Rattle.dep_model.specs.Theories.{width_of, universe_of, theory_of};
 ghost use Rattle.dep_model.specs.declared.form.Form.TheVariants as normal;
 ghost use Rattle.which_form.specs.Verdicts.{IsVerdict};
 ghost use Rattle.which_form.specs.declared.forms.TestedForm.TheVariants as tested;
 
 use attr_sets::AttrSet;
-use dep_basis::block;
 use dep_model::Theory;
-use normal_forms::Breach;
+use normal_forms::{Breach, first_part};
 
 // The violation of fourth form, where all dependencies are functional and that of Boyce-Codd form is known:
 // its left side, with the part that has the first attribute beyond it.
@@ -30,24 +28,5 @@ pub fn fourth_beside(theory: &Theory, scheme: AttrSet, bcnf: Option<Breach>) -> 
             Some(Breach { lhs, rhs })
         }
         None => None,
-    }
-}
-
-// The part of a left side with the first attribute beyond it, where some attribute is.
-fn first_part(theory: &Theory, scheme: AttrSet, lhs: AttrSet) -> AttrSet
-    requires scheme { IsSubset (attributes scheme) (universe_of theory.now) }
-    requires lhs { IsSubset (attributes lhs) (attributes scheme) }
-    ensures first { (a : ℕ) → IsFirstFrom (difference (attributes scheme) (attributes lhs)) 0 a
-        → attributes result a ≡ true }
-    ensures part { (IsEmpty (difference (attributes scheme) (attributes lhs)) → ⊥)
-        → IsPartOn (width_of theory.now) (theory_of theory.now) (attributes scheme) (attributes lhs)
-        (attributes result) }
-{
-    let Some(first) = scheme.difference(lhs).first() else {
-        return AttrSet::empty();
-    };
-    match block(theory, lhs, first) {
-        Some(found) => found.intersection(scheme),
-        None => AttrSet::single(first),
     }
 }

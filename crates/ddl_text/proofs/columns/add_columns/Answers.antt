@@ -1,34 +1,25 @@
--- What is left to prove of `add_columns`: that the invariant of its loop holds at first and stays,
--- by `TextLemmas`.
-use Rattle.std.proofs.Common.{false, map, refl, sym, append-nil}
+-- What is left to prove of `add_columns`: that a value may be missing where it may be and is not of the key.
+use Rattle.std.proofs.Common.{◌≡◌, ◌++◌, ◌∙◌, false, ap, subst}
+use Rattle.std.specs.Prelude.{IfOk, OnOk}
+use Rattle.attr_sets.specs.Attributes.{Attributes, difference}
 use Rattle.attr_sets.specs.Sets.{attributes}
-use Rattle.dep_model.specs.Projections.{members_below}
-use Rattle.dep_model.proofs.SchemeLemmas.{members_below-none}
-use Rattle.ddl_text.specs.Ddl.{column_element}
-use Rattle.ddl_text.proofs.TextLemmas.{members_inside, members_outside, lines_more}
-use Rattle.sql_syntax.proofs.NameLemmas.{not_empty_more}
+use Rattle.schema_model.specs.Schemas.{nullable_of}
+use Rattle.ddl_text.specs.Ddl.{columns_of_set}
+use Rattle.sql_syntax.specs.Names.{is_not_empty}
+use Rattle.sql_syntax.specs.Statements.{element_lines}
 use Rattle.ddl_text.proofs.columns.add_columns.Goals as goal
-use Rattle.ddl_text.proofs.columns.add_columns.Goals.{then-contains+in_ok-add_opening+in_ok-add_column, else-contains}
 
-pub loop-attribute-init : goal.loop-attribute-init
-loop-attribute-init c = rw (members_below-none (attributes c.args.scheme))
-    (record { added = sym (append-nil c.args.text.now.items); any_before = refl })
-
-pub loop-attribute-preserved : goal.loop-attribute-preserved
-loop-attribute-preserved c =
+pub returns : goal.returns
+returns c =
     let s = c.args.schema.now in
-    let x = attributes c.args.scheme in
-    let n = c.loop-attribute.attribute in
-    let before = c.loop-attribute.invariant in
-    elim c.if-contains.branch [
-      | then-contains+in_ok-add_opening+in_ok-add_column w ↦
-          rw (members_inside (column_element s) n x (sym w.if-contains.ensures.member), w.text-is, w.any_before-is) (record {
-            added = lines_more false c.loop-attribute.any_before (map (column_element s) (members_below n x))
-                (column_element s n) c.args.text.now.items c.loop-attribute.text.items
-                w.add_opening.new.text.items w.add_column.new.text.items before.added before.any_before
-                w.in_ok-add_opening.ensures.added w.in_ok-add_column.ensures.added;
-            any_before = not_empty_more false (map (column_element s) (members_below n x)) (column_element s n);
-          })
-      | else-contains w ↦ rw (members_outside (column_element s) n x (sym w.if-contains.ensures.member), w.text-is, w.any_before-is)
-          before
-    ]
+    let scheme = attributes c.args.table.now.scheme in
+    let same : attributes c.difference-nullable.result ≡ difference (nullable_of s) (attributes c.args.table.now.key) =
+    c.difference-nullable.ensures.members ∙ ap (λ (x : Attributes). difference x (attributes c.args.table.now.key)) c.nullable.ensures.nullable in
+    record {
+      added = subst (λ (x : Attributes). OnOk c.add_columns_of_set.result
+          (c.add_columns_of_set.new.text.items ≡ c.args.text.now.items ++ element_lines false (columns_of_set s x scheme)))
+          same c.add_columns_of_set.ensures.added;
+      any_written = subst (λ (x : Attributes). IfOk c.add_columns_of_set.result
+          (λ any_before. any_before ≡ is_not_empty (columns_of_set s x scheme)))
+          same c.add_columns_of_set.ensures.any_written;
+    }

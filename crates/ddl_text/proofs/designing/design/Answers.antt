@@ -24,14 +24,8 @@ returns-clause-keys_hold c =
     (sym c.schemes.ensures.schemes) inside)
 
 pub returns-clause-other_keys_hold : goal.returns-clause-other_keys_hold
-returns-clause-other_keys_hold c =
-    let s = c.args.schema.now in
-    let plan = c.args.plan.now in
-    let inside = subst (λ (n : ℕ). All (λ (x : AttrSet). IsSubset (attributes x) (below n)) plan.schemes.items)
-    c.requires.universe plan.valid.within in
-    design_other_keys s c.args.names.now c.schemes.result.now c.in_ok-tables.tables.items c.in_ok-tables.ensures.design
-    (subst (λ (xs : List AttrSet). All (λ (x : AttrSet). IsSubset (attributes x) (below (width_of s))) xs)
-    (sym c.schemes.ensures.schemes) inside)
+returns-clause-other_keys_hold c = design_other_keys c.args.schema.now c.args.names.now c.schemes.result.now
+    c.in_ok-tables.tables.items c.in_ok-tables.ensures.design
 
 pub returns-clause-references_hold : goal.returns-clause-references_hold
 returns-clause-references_hold c = design_references c.args.schema.now c.args.names.now c.schemes.result.now

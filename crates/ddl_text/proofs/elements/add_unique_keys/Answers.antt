@@ -1,9 +1,9 @@
 -- What is left to prove of `add_unique_keys`: that a round of its loop keeps the invariant, by
 -- `uniques_more`, `uniques_not_empty` and `uniques_passed`.
-use Rattle.std.proofs.Common.{ℕ, List, ◌++◌, ◌||◌, sym, ap, ◌∙◌}
+use Rattle.std.proofs.Common.{List, ◌++◌, ◌||◌, sym, ap, ◌∙◌}
 use Rattle.attr_sets.specs.declared.set.AttrSet.{AttrSet}
 use Rattle.sql_syntax.specs.Names.{is_not_empty}
-use Rattle.ddl_text.specs.Ddl.{element_lines}
+use Rattle.sql_syntax.specs.Statements.{Element, element_lines}
 use Rattle.ddl_text.proofs.TextLemmas.{missing_from, never_from, uniques_more, uniques_not_empty, uniques_passed}
 use Rattle.ddl_text.proofs.elements.add_unique_keys.Goals as goal
 
@@ -14,9 +14,9 @@ loop-key-preserved-then-may_be_missing c =
     (missing_from _ _ c.if-may_be_missing.true c.may_be_missing.ensures.missing) in
     record {
       added = c.loop-key.invariant.added
-          ∙ ap (λ (es : List (List ℕ)). c.args.text.now.items ++ element_lines c.args.any_before es) (sym same);
+          ∙ ap (λ (es : List Element). c.args.text.now.items ++ element_lines c.args.any_before es) (sym same);
       any_before = c.loop-key.invariant.any_before
-          ∙ ap (λ (es : List (List ℕ)). c.args.any_before || is_not_empty es) (sym same);
+          ∙ ap (λ (es : List Element). c.args.any_before || is_not_empty es) (sym same);
     }
 
 pub loop-key-preserved : goal.loop-key-preserved

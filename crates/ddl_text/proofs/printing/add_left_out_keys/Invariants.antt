@@ -1,7 +1,7 @@
 -- What the loop of `add_left_out_keys` keeps: the lines of the keys so far.
 use Rattle.std.proofs.Common.{◌≡◌, ◌++◌, take}
 use Rattle.dep_model.specs.Plans.{schemes_of}
-use Rattle.ddl_text.specs.Ddl.{left_out_lines}
+use Rattle.ddl_text.proofs.TextLemmas.{left_out_lines}
 use Rattle.ddl_text.proofs.printing.add_left_out_keys.Given as goal
 
 abbrev pub invariant-loop-key : goal.invariant-loop-key

@@ -11,10 +11,10 @@ loop-j-preserved c =
     let i = c.loop-j.j-index in
     let before = c.loop-j.invariant in
     record {
-      added = references_more s tables refs i 0 c.index-tables-j.result c.args.any_before c.loop-j.any_before
+      added = λ table. references_more s tables table refs i 0 c.index-tables-j.result c.args.any_before c.loop-j.any_before
           c.args.text.now.items c.loop-j.text.items
           c.add_opening.new.text.items c.add_reference.new.text.items c.loop-j-test.true
           (c.requires.refs i 0 c.loop-j-test.true) c.index-tables-j.is
-          before.added before.any_before c.in_ok-add_opening.ensures.added c.in_ok-add_reference.ensures.added;
-      any_before = references_not_empty s tables refs i 0 c.args.any_before c.loop-j-test.true;
+          (before.added table) (before.any_before table) c.in_ok-add_opening.ensures.added c.in_ok-add_reference.ensures.added;
+      any_before = λ table. references_not_empty s tables table refs i 0 c.args.any_before c.loop-j-test.true;
     }

@@ -1,7 +1,7 @@
 -- What is left to prove of `script_migration`: its clause `response`.
 use Rattle.std.proofs.Common.{[], inl, inr}
 use Rattle.plans.specs.Plans.{scheme_sets}
-use Rattle.desk_designs.proofs.MissingLemmas.{never_missing}
+use Rattle.desk_designs.proofs.MissingLemmas.{readable_plan}
 use Rattle.desk_scripts.proofs.scripts.script_migration.Goals as goal
 
 pub returns-in-Err-plan_in_form : goal.returns-in-Err-plan_in_form
@@ -24,14 +24,14 @@ returns c =
     let plan = c.in-Ok-plan_in_form in
     let tables = c.in-Ok-required_design in
     let sets = scheme_sets plan.plan in
-    let never = never_missing c.args.schema.now [] sets tables.tables tables.ensures.sound tables.ensures.never_missing in
+    let readable = readable_plan c.args.schema.now [] sets tables.tables tables.ensures.sound tables.ensures.unhindered in
     record {
       response = inr (
         c.in-Ok.ensures.ok,
         inr (
           sets,
           plan.ensures.ok,
-          inr (never, (tables.tables, tables.ensures.sound, c.in_ok-statements_response.ensures.response)),
+          inr (readable, (tables.tables, tables.ensures.sound, c.in_ok-statements_response.ensures.response)),
         ),
       );
     }

@@ -1,7 +1,7 @@
 -- What is left to prove of `script_migration_by_plan`: its clause `response`.
 use Rattle.std.proofs.Common.{inl, inr, refl}
 use Rattle.plans.specs.Plans.{scheme_sets}
-use Rattle.desk_designs.proofs.MissingLemmas.{never_missing}
+use Rattle.desk_designs.proofs.MissingLemmas.{readable_plan}
 use Rattle.desk_scripts.proofs.scripts.script_migration_by_plan.Goals as goal
 
 pub returns-in-Err-test_other_name : goal.returns-in-Err-test_other_name
@@ -18,23 +18,23 @@ pub returns-in-Err-test_loss : goal.returns-in-Err-test_loss
 returns-in-Err-test_loss c =
     let tables = c.in-Ok-required_design in
     let sets = scheme_sets c.args.plan.now in
-    let never = never_missing c.args.schema.now c.args.names.now sets tables.tables tables.ensures.sound tables.ensures.never_missing in
+    let readable = readable_plan c.args.schema.now c.args.names.now sets tables.tables tables.ensures.sound tables.ensures.unhindered in
     record {
-      response = λ response is. inr (c.in-Ok.ensures.ok, inr (c.in-Ok-test_other_name.ensures.ok, inr (never, inl (c.in-Err-test_loss.ensures.exit response is))));
+      response = λ response is. inr (c.in-Ok.ensures.ok, inr (c.in-Ok-test_other_name.ensures.ok, inr (readable, inl (c.in-Err-test_loss.ensures.exit response is))));
     }
 
 pub returns : goal.returns
 returns c =
     let tables = c.in-Ok-required_design in
     let sets = scheme_sets c.args.plan.now in
-    let never = never_missing c.args.schema.now c.args.names.now sets tables.tables tables.ensures.sound tables.ensures.never_missing in
+    let readable = readable_plan c.args.schema.now c.args.names.now sets tables.tables tables.ensures.sound tables.ensures.unhindered in
     record {
       response = inr (
         c.in-Ok.ensures.ok,
         inr (
           c.in-Ok-test_other_name.ensures.ok,
           inr (
-            never,
+            readable,
             inr (
               c.in-Ok-test_loss.ensures.ok,
               (sets, refl, (tables.tables, tables.ensures.sound, c.in_ok-statements_response.ensures.response)),

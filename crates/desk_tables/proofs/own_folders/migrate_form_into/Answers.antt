@@ -6,7 +6,7 @@ use Rattle.attr_sets.specs.declared.set.AttrSet.{AttrSet}
 use Rattle.dep_model.specs.Plans.{schemes_of}
 use Rattle.plans.specs.Plans.{scheme_sets}
 use Rattle.desk_designs.specs.Decompositions.{FormStops, IsPlanInForm}
-use Rattle.desk_designs.specs.Designs.{AreNeverMissing, MissingStops, WithoutMissing}
+use Rattle.desk_designs.specs.Designs.{AreReadable, MissingStops, WithoutMissing}
 use Rattle.desk_responses.proofs.StepLemmas.{Unless-passed, With-found}
 use Rattle.desk_responses.specs.ResponseValues.{Unless}
 use Rattle.desk_tables.specs.OwnFolders.{FolderStops, MigratesRowsInto}
@@ -29,10 +29,10 @@ pub returns-in-Err-test_folder : goal.returns-in-Err-test_folder
 returns-in-Err-test_folder c =
     let s = c.args.schema.now in
     let sets = scheme_sets c.in-Ok.plan in
-    let never : AreNeverMissing s [] (schemes_of sets) = (
+    let never : AreReadable s [] (schemes_of sets) = (
       c.in-Ok-required_design.tables,
       record { plan = sets; same = refl; sound = c.in-Ok-required_design.ensures.sound },
-      c.in-Ok-required_design.ensures.never_missing,
+      c.in-Ok-required_design.ensures.unhindered,
     ) in
     record {
       response = λ looks look response e. inr (
@@ -50,10 +50,10 @@ returns c =
     let rows = c.args.rows in
     let sets = scheme_sets c.in-Ok.plan in
     let result = c.migrate_rows_into.result in
-    let never : AreNeverMissing s [] (schemes_of sets) = (
+    let never : AreReadable s [] (schemes_of sets) = (
       c.in-Ok-required_design.tables,
       record { plan = sets; same = refl; sound = c.in-Ok-required_design.ensures.sound },
-      c.in-Ok-required_design.ensures.never_missing,
+      c.in-Ok-required_design.ensures.unhindered,
     ) in
     record {
       response = λ looks look.
@@ -62,6 +62,6 @@ returns c =
           With-found (FormStops s form) (IsPlanInForm s form)
           (λ (plan : List AttrSet). WithoutMissing s [] (schemes_of plan) (Unless (FolderStops looks folder) (IsTrue (looks folder true)) (MigratesRowsInto s [] plan folder rows)))
           sets result c.in-Ok.ensures.ok
-          (Unless-passed (MissingStops s [] (schemes_of sets)) (AreNeverMissing s [] (schemes_of sets)) rest result never
+          (Unless-passed (MissingStops s [] (schemes_of sets)) (AreReadable s [] (schemes_of sets)) rest result never
           (Unless-passed (FolderStops looks folder) (IsTrue (looks folder true)) (MigratesRowsInto s [] sets folder rows) result free c.migrate_rows_into.ensures.response));
     }

@@ -3,7 +3,7 @@
 use Rattle.std.proofs.Common.{inl, inr, true, refl}
 use Rattle.std.specs.Prelude.{IsTrue}
 use Rattle.plans.specs.Plans.{plan_of, scheme_sets}
-use Rattle.desk_designs.specs.Designs.{AreNeverMissing, MissingStops}
+use Rattle.desk_designs.specs.Designs.{AreReadable, MissingStops}
 use Rattle.desk_designs.specs.Joins.{IsShownLossless, LossStops, WithoutLoss}
 use Rattle.desk_responses.proofs.StepLemmas.{Unless-passed}
 use Rattle.desk_responses.specs.ResponseValues.{Unless}
@@ -19,19 +19,19 @@ returns-in-Err c = record { response = λ looks look response e. inl (c.in-Err.e
 
 pub returns-in-Err-test_folder : goal.returns-in-Err-test_folder
 returns-in-Err-test_folder c =
-    let never : AreNeverMissing c.args.schema.now c.args.names.now (plan_of c.args.plan.now) = (
+    let never : AreReadable c.args.schema.now c.args.names.now (plan_of c.args.plan.now) = (
       c.in-Ok.tables,
       record { plan = scheme_sets c.args.plan.now; same = refl; sound = c.in-Ok.ensures.sound },
-      c.in-Ok.ensures.never_missing,
+      c.in-Ok.ensures.unhindered,
     ) in
     record { response = λ looks look response e. inr (never, inl (c.in-Err-test_folder.ensures.exit looks look response e)) }
 
 pub returns-in-Err-test_loss : goal.returns-in-Err-test_loss
 returns-in-Err-test_loss c =
-    let never : AreNeverMissing c.args.schema.now c.args.names.now (plan_of c.args.plan.now) = (
+    let never : AreReadable c.args.schema.now c.args.names.now (plan_of c.args.plan.now) = (
       c.in-Ok.tables,
       record { plan = scheme_sets c.args.plan.now; same = refl; sound = c.in-Ok.ensures.sound },
-      c.in-Ok.ensures.never_missing,
+      c.in-Ok.ensures.unhindered,
     ) in
     record {
       response = λ looks look response e. inr (
@@ -52,16 +52,16 @@ returns c =
     let plan = plan_of c.args.plan.now in
     let result = c.migrate_rows_into.result in
     let rest = MigratesSchemesInto s c.args.names.now plan folder rows in
-    let never : AreNeverMissing s c.args.names.now plan = (
+    let never : AreReadable s c.args.names.now plan = (
       c.in-Ok.tables,
       record { plan = sets; same = refl; sound = c.in-Ok.ensures.sound },
-      c.in-Ok.ensures.never_missing,
+      c.in-Ok.ensures.unhindered,
     ) in
     record {
       response = λ looks look.
           let free = is_free looks folder c.args.is_free c.in-Ok-test_folder.ensures.ok look in
           let lossless = WithoutLoss s plan rest in
-          Unless-passed (MissingStops s c.args.names.now plan) (AreNeverMissing s c.args.names.now plan) (Unless (FolderStops looks folder) (IsTrue (looks folder true)) lossless) result never
+          Unless-passed (MissingStops s c.args.names.now plan) (AreReadable s c.args.names.now plan) (Unless (FolderStops looks folder) (IsTrue (looks folder true)) lossless) result never
           (Unless-passed (FolderStops looks folder) (IsTrue (looks folder true)) lossless result free
           (Unless-passed (LossStops s plan) (IsShownLossless s plan) rest result c.in-Ok-test_loss.ensures.ok
           (of_schemes s c.args.names.now sets folder rows result c.migrate_rows_into.ensures.response)));

@@ -5,7 +5,7 @@ use Rattle.attr_sets.specs.declared.set.AttrSet.{AttrSet}
 use Rattle.plans.specs.Plans.{scheme_sets}
 use Rattle.dep_model.specs.Plans.{schemes_of}
 use Rattle.desk_designs.specs.Decompositions.{FormStops, IsPlanInForm}
-use Rattle.desk_designs.specs.Designs.{AreNeverMissing, MissingStops, WithoutMissing}
+use Rattle.desk_designs.specs.Designs.{AreReadable, MissingStops, WithoutMissing}
 use Rattle.desk_tables.specs.Migrations.{MigratesRows}
 use Rattle.desk_tables.specs.Overwriting.{KeepsFiles}
 use Rattle.desk_responses.proofs.StepLemmas.{Unless-passed, With-found}
@@ -55,7 +55,7 @@ returns c =
       response = With-found (FormStops s form) (IsPlanInForm s form)
           (λ (sets : List AttrSet). WithoutMissing s [] (schemes_of sets) (KeepsFiles [] (length (schemes_of sets)) files (MigratesRows s [] (schemes_of sets) c.args.rows)))
           (scheme_sets c.in-Ok.plan) result c.in-Ok.ensures.ok
-          (Unless-passed (MissingStops s [] plan) (AreNeverMissing s [] plan) (KeepsFiles [] tables files rest) result c.in-Ok-test_missing.ensures.ok
+          (Unless-passed (MissingStops s [] plan) (AreReadable s [] plan) (KeepsFiles [] tables files rest) result c.in-Ok-test_missing.ensures.ok
           (file_kept [] tables c.args.schema_file.now (c.args.rows_file.now ∷ []) rest result c.in-Ok-test_file.ensures.ok
           (file_kept [] tables c.args.rows_file.now [] rest result c.in-Ok-test_file-2.ensures.ok c.migrate_rows.ensures.response)));
     }

@@ -2,7 +2,7 @@
 -- does.
 use Rattle.std.proofs.Common.{inl, inr, [], ◌∷◌, length}
 use Rattle.plans.specs.Plans.{plan_of}
-use Rattle.desk_designs.specs.Designs.{AreNeverMissing, MissingStops}
+use Rattle.desk_designs.specs.Designs.{AreReadable, MissingStops}
 use Rattle.desk_responses.proofs.StepLemmas.{Unless-passed}
 use Rattle.desk_tables.specs.Migrations.{MigratesPlan}
 use Rattle.desk_tables.specs.Overwriting.{KeepsFiles}
@@ -40,7 +40,7 @@ returns c =
     let result = c.migrate_by_plan.result in
     let plan_and_rows = c.args.plan_file.now ∷ c.args.rows_file.now ∷ [] in
     record {
-      response = Unless-passed (MissingStops s names plan) (AreNeverMissing s names plan) (KeepsFiles names tables (c.args.schema_file.now ∷ plan_and_rows) rest) result c.in-Ok.ensures.ok
+      response = Unless-passed (MissingStops s names plan) (AreReadable s names plan) (KeepsFiles names tables (c.args.schema_file.now ∷ plan_and_rows) rest) result c.in-Ok.ensures.ok
           (file_kept names tables c.args.schema_file.now plan_and_rows rest result c.in-Ok-test_file.ensures.ok
           (file_kept names tables c.args.plan_file.now (c.args.rows_file.now ∷ []) rest result c.in-Ok-test_file-2.ensures.ok
           (file_kept names tables c.args.rows_file.now [] rest result c.in-Ok-test_file-3.ensures.ok c.migrate_by_plan.ensures.response)));

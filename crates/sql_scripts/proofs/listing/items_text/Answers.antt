@@ -7,7 +7,7 @@ use Rattle.dep_model.specs.Projections.{members_below}
 use Rattle.schema_model.specs.Schemas.{width_of}
 use Rattle.sql_syntax.specs.Printing.{item_text}
 use Rattle.sql_scripts.specs.Listing.{item_of}
-use Rattle.sql_scripts.proofs.ListingLemmas.{comma_list-map}
+use Rattle.sql_syntax.proofs.ListLemmas.{comma_list-map}
 use Rattle.sql_scripts.proofs.listing.items_text.Goals as goal
 
 pub returns : goal.returns

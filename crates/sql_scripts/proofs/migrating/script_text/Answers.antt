@@ -16,6 +16,6 @@ returns c =
       text = subst (λ (t : List ℕ). IfOk c.migration_text.result (λ text. text.items ≡ t))
           (ap (λ (designs : List TableDesign). opening_text s c.args.table.now ++ c.deref.result.now ++ flat_map (fill_text s) designs
           ++ statement_text (create_view view_name (view_query s designs)) ++ testing_text s c.args.table.now) c.tables.ensures.tables
-          ∙ migration_printed s c.args.table.now c.args.design.now c.deref.result.now c.tables.ensures.earlier (c.deref.ensures.value ∙ c.in_ok-ddl.ensures.text))
+          ∙ migration_printed s c.args.table.now c.args.design.now c.deref.result.now (c.deref.ensures.value ∙ c.in_ok-ddl.ensures.text))
           c.migration_text.ensures.text;
     }

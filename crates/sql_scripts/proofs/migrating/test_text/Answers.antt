@@ -1,5 +1,5 @@
 -- What is left to prove of `test_text`: its clause `text`, by what each call adds.
-use Rattle.std.proofs.Common.{◌≡◌, ◌++◌, ℕ, List, ap, ◌∙◌}
+use Rattle.std.proofs.Common.{◌++◌, ℕ, List, ap, ◌∙◌}
 use Rattle.sql_scripts.specs.Migrating.{width_text, test_words, count_text, test_end}
 use Rattle.sql_scripts.proofs.migrating.test_text.Goals as goal
 

@@ -1,12 +1,12 @@
 -- What is left to prove of `add_name_list`: its clause `added` and that a round of its loop keeps
 -- the invariant, by `NameLemmas`.
-use Rattle.std.proofs.Common.{◌≡◌, ◌++◌, ◌<◌, false, List, [], ℕ, take, take_all, get_or, length, sym, subst, arith}
+use Rattle.std.proofs.Common.{◌≡◌, ◌++◌, ◌<◌, ◌∙◌, ap, false, List, [], ℕ, take, take_all, get_or, length, sym, subst, arith}
 use Rattle.attr_sets.specs.Sets.{attributes}
 use Rattle.schema_model.specs.Schemas.{names_of}
 use Rattle.schema_printer.specs.Printing.{members_from}
 use Rattle.schema_printer.proofs.MemberLemmas.{names_inside, names_outside}
 use Rattle.sql_syntax.specs.Names.{quoted_name, comma_list}
-use Rattle.sql_syntax.proofs.NameLemmas.{comma_list-next, not_empty_more, name_is}
+use Rattle.sql_syntax.proofs.NameLemmas.{comma_list-next, names_listed, not_empty_more, name_is}
 use Rattle.sql_syntax.proofs.name_list.add_name_list.Goals as goal
 use Rattle.sql_syntax.proofs.name_list.add_name_list.Goals.{then-contains+in_ok-add_listed_name, else-contains}
 
@@ -37,5 +37,6 @@ returns c =
       added = subst (λ (ns : List (List ℕ)). c.loop-attribute.text.items ≡ c.args.text.now.items ++ comma_list quoted_name
           (members_from (attributes c.args.set) 0 ns))
           (take_all c.loop-attribute.attribute names (omega
-          (arith, c.loop-attribute-test.false, c.width-attribute-end.ensures.count))) c.loop-attribute.invariant.added;
+          (arith, c.loop-attribute-test.false, c.width-attribute-end.ensures.count))) c.loop-attribute.invariant.added
+          ∙ ap (λ (t : List ℕ). c.args.text.now.items ++ t) (sym (names_listed c.args.schema.now (attributes c.args.set)));
     }

@@ -1,0 +1,6 @@
+pub mod OrderLemmas
+pub mod HomeLemmas
+pub mod MissingLemmas
+pub mod JoinedLemmas
+pub mod FoundLemmas
+pub mod ReadBackLemmas

@@ -1,0 +1,2 @@
+-- The definitions of optional_laws.
+pub mod KeyOrder

@@ -1,0 +1,10 @@
+-- What the loop of `always_filled` keeps: the positions so far.
+use Rattle.std.proofs.Common.{◌≡◌, not, take}
+use Rattle.attr_sets.specs.Sets.{attributes}
+use Rattle.optional_tables.specs.Homes.{is_optional}
+use Rattle.optional_tables.specs.Order.{positions_from}
+use Rattle.optional_tables.proofs.ordering.always_filled.Given as goal
+
+abbrev pub invariant-loop-k : goal.invariant-loop-k
+invariant-loop-k l =
+    l.found.items ≡ positions_from (λ table. not (is_optional (attributes l.nullable) table)) 0 (take l.k l.tables)

@@ -1,0 +1,5 @@
+pub mod LookedUpLemmas
+pub mod ReadBackLemmas
+pub mod ByKeyLemmas
+pub mod ZipLemmas
+pub mod RejoinedLemmas
