@@ -1,5 +1,5 @@
 -- Irreducible closed sets by what they have of the left sides, from which they are found: for the
--- search of armstrong_rel and its law `irreducible_by_left_sides`. `Desk` does not cite it.
+-- search of armstrong_rel and its law `irreducible_exactly_where`. `Desk` does not cite it.
 use Rattle.std.specs.Prelude.{◌≡◌, ℕ, ◌<◌, ◌↔◌, true, false, List}
 use Rattle.attr_sets.specs.Attributes.{Attributes, below, only, union, difference, IsSubset}
 use Rattle.dep_model.specs.Dependencies.{Dependency}

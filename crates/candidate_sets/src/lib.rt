@@ -22,10 +22,5 @@ mod refusal;
 
 pub use adding::{add_evidence, first_candidates};
 pub use asking::is_any_within;
-pub use laws::{
-    empty_set_comes_first, evidence_with_it_changes_nothing, few_columns_are_within_the_limit,
-    grown_sets_arise_once, listed_or_more, obeyed_candidates_are_minimal, obeyed_sets_stand,
-    room_falls, standing_sets_hold_candidates, step_gives_candidates,
-    unobeyed_candidates_give_evidence,
-};
+pub use laws::{candidates_are_minimal_dependencies, candidates_are_within_the_limit, evidence_steps_to_candidates};
 pub use refusal::{MOST_CANDIDATES, TooManyCandidates};

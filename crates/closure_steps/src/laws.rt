@@ -7,21 +7,14 @@ ghost use Rattle.dep_model.specs.Implication.{Implies};
 ghost use Rattle.dep_model.specs.Keys.{InClosure};
 ghost use Rattle.closure_steps.specs.Steps.{ClosureStepValue, reached, AreSteps, AreClosureSteps};
 
-/// What is there after some steps follows from the set by the functional dependencies.
-pub fn steps_follow()
-    ensures law { (n : ℕ) (ds : List Dependency) (x : Attributes) (steps : List ClosureStepValue)
-        → AreSteps ds x steps → Implies n (functional_part ds) (fd x (reached x steps)) }
-{}
-
-/// The steps reach exactly what the set determines by the functional dependencies.
+/// What is there after some steps follows from the set by the functional dependencies, and all steps
+/// reach exactly what the set determines by them. A set is closed by one list of steps.
 pub fn steps_reach_the_closure()
-    ensures law { (n : ℕ) (ds : List Dependency) (x : Attributes) (steps : List ClosureStepValue) (a : ℕ)
+    ensures follows { (n : ℕ) (ds : List Dependency) (x : Attributes) (steps : List ClosureStepValue)
+        → AreSteps ds x steps → Implies n (functional_part ds) (fd x (reached x steps)) }
+    ensures reached { (n : ℕ) (ds : List Dependency) (x : Attributes) (steps : List ClosureStepValue) (a : ℕ)
         → All (IsWithin (below n)) ds → IsSubset x (below n) → AreClosureSteps ds x steps
         → (reached x steps a ≡ true) ↔ InClosure n (functional_part ds) x a }
-{}
-
-/// A set is closed by one list of steps.
-pub fn one_list_of_steps()
-    ensures law { (ds : List Dependency) (x : Attributes) (steps others : List ClosureStepValue)
+    ensures unique { (ds : List Dependency) (x : Attributes) (steps others : List ClosureStepValue)
         → AreClosureSteps ds x steps → AreClosureSteps ds x others → steps ≡ others }
 {}

@@ -10,31 +10,23 @@ ghost use Rattle.column_values.specs.Decimals.{decimal_text};
 ghost use Rattle.column_values.specs.Values.{IsValueOf};
 ghost use Rattle.column_values.specs.MadeUp.{made_up};
 
-/// The value of a type that stands for a number below `MADE_UP_VALUES` is a value of the type.
-pub fn made_up_values_are_values()
-    ensures law { (column : ColumnType) (number : ℕ) → IsTrue (is_column_type column)
-        → number < MADE_UP_VALUES → IsValueOf column (made_up column number) }
-{}
-
-/// The values of a type that stand for different numbers below `MADE_UP_VALUES` are different.
+/// The value of a type that stands for a number below `MADE_UP_VALUES` is a value of the type, and
+/// those that stand for different numbers are different.
 pub fn made_up_values_differ()
-    ensures law { (column : ColumnType) (m n : ℕ) → m < MADE_UP_VALUES → n < MADE_UP_VALUES
+    ensures values { (column : ColumnType) (number : ℕ) → IsTrue (is_column_type column)
+        → number < MADE_UP_VALUES → IsValueOf column (made_up column number) }
+    ensures different { (column : ColumnType) (m n : ℕ) → m < MADE_UP_VALUES → n < MADE_UP_VALUES
         → made_up column m ≡ made_up column n → m ≡ n }
 {}
 
-/// A text has one day: different days have different texts. That a day has one text is said by
-/// `date_text`.
-pub fn text_has_one_day()
-    ensures law { (year month day other_year other_month other_day : ℕ)
+/// A text has one day, and one decimal number of a scale: different ones have different texts. That
+/// each has one text is said by `date_text` and `decimal_text`.
+pub fn texts_have_one_value()
+    ensures day { (year month day other_year other_month other_day : ℕ)
         → IsDay year month day → IsDay other_year other_month other_day
         → date_text year month day ≡ date_text other_year other_month other_day
         → (year ≡ other_year) × (month ≡ other_month) × (day ≡ other_day) }
-{}
-
-/// A text has one decimal number: different ones have different texts. That a number has one text is
-/// said by `decimal_text`.
-pub fn text_has_one_decimal()
-    ensures law { (scale whole fraction other_whole other_fraction : ℕ)
+    ensures decimal { (scale whole fraction other_whole other_fraction : ℕ)
         → whole < 10 ^ 15 → other_whole < 10 ^ 15 → fraction < 10 ^ scale → other_fraction < 10 ^ scale
         → decimal_text scale whole fraction ≡ decimal_text scale other_whole other_fraction
         → (whole ≡ other_whole) × (fraction ≡ other_fraction) }

@@ -15,16 +15,13 @@ pub fn one_design_order()
 {}
 
 /// The order has the schemes of the plan, and no scheme determines more attributes than a later one.
-pub fn fewest_come_first()
+/// That of a lossless plan is lossless, whatever dependencies the relations obey.
+pub fn design_order_keeps_the_plan()
     ensures same { (n : ℕ) (ds : List Dependency) (plan ordered : List Attributes)
         → IsInDesignOrder n ds plan ordered
         → (scheme : Attributes) → Contains ordered scheme ↔ Contains plan scheme }
     ensures ascending { (n : ℕ) (ds : List Dependency) (plan ordered : List Attributes)
         → IsInDesignOrder n ds plan ordered → AllPairs (DeterminesNoMore n ds) ordered }
-{}
-
-/// The order of a lossless plan is lossless, whatever dependencies the relations obey.
-pub fn lossless_plans_stay_lossless()
-    ensures law { (n : ℕ) (ds es : List Dependency) (plan ordered : List Attributes)
+    ensures lossless { (n : ℕ) (ds es : List Dependency) (plan ordered : List Attributes)
         → IsInDesignOrder n ds plan ordered → IsLossless n es plan → IsLossless n es ordered }
 {}

@@ -14,14 +14,11 @@ ghost use Rattle.schema_printer.specs.Printing.{schema_text};
 ghost use Rattle.desk_imports.specs.Columns.{ImportsColumns, IsSchemaOf};
 ghost use Rattle.desk_responses.specs.ResponseValues.{ResponseValue};
 
-/// Each value of the file fits its column of the schema.
-pub fn values_fit_the_schema()
-    ensures law { (headed : HeadedRows) (s : Schema) → IsSchemaOf headed s → FitsColumns s headed.rows }
-{}
-
-/// The text that is printed means this schema, without dependencies.
-pub fn text_means_the_schema()
-    ensures law { (headed : HeadedRows) (s : Schema) → IsHeaderWithin MOST_ATTRIBUTES headed.names
+/// Each value of the file fits its column of the schema, and the text that is printed means this
+/// schema, without dependencies. There is one answer.
+pub fn columns_are_imported()
+    ensures fits { (headed : HeadedRows) (s : Schema) → IsSchemaOf headed s → FitsColumns s headed.rows }
+    ensures means { (headed : HeadedRows) (s : Schema) → IsHeaderWithin MOST_ATTRIBUTES headed.names
         → IsSchemaOf headed s
         → (lines : List ℕ) × MeansSchema (schema_text s [])
         (record {
@@ -32,10 +29,6 @@ pub fn text_means_the_schema()
           naming = Any;
           nullable = nullable_of s;
         }) }
-{}
-
-/// There is one answer.
-pub fn one_import()
-    ensures law { (headed : HeadedRows) (one other : ResponseValue) → ImportsColumns headed one
+    ensures unique { (headed : HeadedRows) (one other : ResponseValue) → ImportsColumns headed one
         → ImportsColumns headed other → one ≡ other }
 {}

@@ -11,17 +11,13 @@ ghost use Rattle.fd_projection.specs.Projections.{IsProjection, IsCoverWithin, I
 ghost use Rattle.fd_closure.specs.LeftSides.{left_sides};
 
 /// A functional dependency inside a set follows from its projection exactly where it follows from the
-/// list; no dependency of the projection follows from the others, and no attribute of a left side can be
-/// left out.
+/// list; no dependency of the projection follows from the others, and no attribute of a left side can
+/// be left out. The left side of a minimal dependency inside a set lies within the given left sides.
 pub fn projections_are_exact()
-    ensures law { (n : ℕ) (ds : List Dep) (set : Attributes) (rules : List Dependency)
+    ensures cover { (n : ℕ) (ds : List Dep) (set : Attributes) (rules : List Dependency)
         → n ≤ MOST_ATTRIBUTES → All (IsDepWithin (below n)) ds → IsSubset set (below n)
         → IsProjection n (dependencies_of ds) set rules → IsCoverWithin n (dependencies_of ds) set rules }
-{}
-
-/// The left side of a minimal dependency inside a set lies within the given left sides.
-pub fn minimal_left_sides_are_given()
-    ensures law { (n : ℕ) (ds : List Dep) (set x : Attributes) (a : ℕ)
+    ensures given { (n : ℕ) (ds : List Dep) (set x : Attributes) (a : ℕ)
         → n ≤ MOST_ATTRIBUTES → All (IsDepWithin (below n)) ds → IsSubset set (below n)
         → IsMinimalWithin n (dependencies_of ds) set x a → IsSubset x (left_sides (dependencies_of ds)) }
 {}

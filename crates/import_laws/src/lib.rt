@@ -28,41 +28,30 @@ ghost use Rattle.import_laws.specs.ReadTables.{StatesTable, named};
 ghost use Rattle.import_laws.specs.StatedTypes.{IsWrittenType, read_type, states_a_type};
 ghost use Rattle.import_laws.specs.StatedTypes.{is_serial_type};
 
-/// A type of columns that a schema states by a word of its own is stated by its text, as the laws of designs ask; it is
-/// not serial.
-pub fn own_types_are_stated()
-    ensures law { (d : Dialect) (column : ColumnType) → IsTrue (is_own_type column)
+/// A type of columns that a schema states by a word of its own is stated by its text, as the laws of
+/// designs ask; it is not serial. A type with a text of its own that has the form in which `import`
+/// writes types is read back as it is, or as one that a schema states by a word of its own; and what
+/// `import` reads of any type, if it has a text of its own, has this form: so it is read again.
+pub fn types_are_read_back()
+    ensures stated { (d : Dialect) (column : ColumnType) → IsTrue (is_own_type column)
         → IsTrue (states_a_type d column) × (is_serial_type d column ≡ false) }
-{}
-
-/// A type with a text of its own that has the form in which `import` writes types is read back as it is, or as one that
-/// a schema states by a word of its own.
-pub fn written_types_are_read_back()
-    ensures law { (d : Dialect) (text : List ℕ) → IsTrue (is_column_type (type.Other text)) → IsWrittenType text
+    ensures written { (d : Dialect) (text : List ℕ) → IsTrue (is_column_type (type.Other text)) → IsWrittenType text
         → is_own_type (read_type d (type.Other text)) ≡ false
         → read_type d (type.Other text) ≡ type.Other text }
-{}
-
-/// A type with a text of its own that `import` reads of any type has this form: so it is read again as it is, or as one
-/// that a schema states by a word of its own.
-pub fn read_types_have_this_form()
-    ensures law { (d : Dialect) (column : ColumnType) (text : List ℕ) → IsTrue (is_column_type column)
+    ensures read_again { (d : Dialect) (column : ColumnType) (text : List ℕ) → IsTrue (is_column_type column)
         → read_type d column ≡ type.Other text
         → IsWrittenType text × IsTrue (is_column_type (type.Other text)) }
 {}
 
-/// The SQL of a design defines each of its tables: the columns of its scheme, its key, if it is not empty, and those
-/// other keys of which no value may be missing.
-pub fn designs_define_their_tables()
-    ensures law { (d : Dialect) (s : Schema) (given : GivenNames) (schemes : List AttrSet) (tables : List TableDesign)
+/// The SQL of a design defines each of its tables: the columns of its scheme, its key, if it is not
+/// empty, and those other keys of which no value may be missing. The schema that is imported of a table
+/// of a design has its columns, those outside its key of which a value may be missing, and the keys
+/// that are stated, but for one of all columns.
+pub fn designs_are_read_back()
+    ensures defined { (d : Dialect) (s : Schema) (given : GivenNames) (schemes : List AttrSet) (tables : List TableDesign)
         (k : ℕ) (table : TableDesign) → IsPrintedDesign d s given schemes tables → slice_get tables k ≡ Some table
         → (f : Facts) × (definition_of d (named table.name) (ddl_text s tables) ≡ Ok f) × StatesTable d s table f }
-{}
-
-/// The schema that is imported of a table of a design: its columns, those outside its key of which a value may be
-/// missing, and the keys that are stated, but for one of all columns.
-pub fn designs_are_read_back()
-    ensures law { (d : Dialect) (s : Schema) (given : GivenNames) (schemes : List AttrSet) (tables : List TableDesign)
+    ensures imported { (d : Dialect) (s : Schema) (given : GivenNames) (schemes : List AttrSet) (tables : List TableDesign)
         (k : ℕ) (table : TableDesign) → IsPrintedDesign d s given schemes tables
         → slice_get tables k ≡ Some table
         → (printed : List ℕ) × (lines : List ℕ) × (imported_text d (named table.name) (ddl_text s tables) ≡ Ok printed)

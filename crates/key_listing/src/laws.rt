@@ -15,38 +15,32 @@ ghost use Rattle.fd_closure.specs.declared.left_sides.TheConstants.{WIDEST_SEARC
 ghost use Rattle.key_listing.specs.Refusals.{IsTooWide};
 ghost use Rattle.key_listing.specs.Narrowing.{AreUndetermined, IsInEveryKey, IsInNoKey, DropsAttributesInNoKey};
 
-/// An attribute that the scheme's others do not determine is in every key of the scheme.
-pub fn attribute_in_every_key()
-    ensures law { (n : ℕ) (ds : List Dependency) (scheme k : Attributes) (a : ℕ)
+/// An attribute that the scheme's others do not determine is in every key of the scheme. One that is in
+/// no given left side, and that the scheme's others determine, is in no key of the scheme, multivalued
+/// dependencies among the given ones or not (for functional ones alone Saiedian and Spencer 1996). A
+/// scheme without its attributes that are in no key is a superkey of the scheme, and has the same keys.
+pub fn keys_have_all_or_none()
+    ensures in_every { (n : ℕ) (ds : List Dependency) (scheme k : Attributes) (a : ℕ)
         → IsInEveryKey n ds scheme a
         → IsKey n ds scheme k → k a ≡ true }
-{}
-
-/// An attribute that is in no given left side, and that the scheme's others determine, is in no key of the
-/// scheme, multivalued dependencies among the given ones or not (for functional ones alone Saiedian and
-/// Spencer 1996).
-pub fn attribute_in_no_key()
-    ensures law { (n : ℕ) (ds : List Dep) (scheme k : Attributes) (a : ℕ) → n ≤ MOST_ATTRIBUTES
+    ensures in_none { (n : ℕ) (ds : List Dep) (scheme k : Attributes) (a : ℕ) → n ≤ MOST_ATTRIBUTES
         → All (IsDepWithin (below n)) ds
         → IsSubset scheme (below n) → IsInNoKey n (dependencies_of ds) scheme a
         → IsKey n (dependencies_of ds) scheme k
         → k a ≡ false }
-{}
-
-/// A scheme without its attributes that are in no key is a superkey of the scheme, and has the same keys.
-pub fn scheme_without_attributes_in_no_key()
     ensures superkey { (n : ℕ) (ds : List Dep) (scheme rest : Attributes) → n ≤ MOST_ATTRIBUTES
         → All (IsDepWithin (below n)) ds
         → IsSubset scheme (below n) → DropsAttributesInNoKey n (dependencies_of ds) scheme rest
         → IsSuperkey n (dependencies_of ds) scheme rest }
-    ensures keys { (n : ℕ) (ds : List Dep) (scheme rest k : Attributes) → n ≤ MOST_ATTRIBUTES
+    ensures same_keys { (n : ℕ) (ds : List Dep) (scheme rest k : Attributes) → n ≤ MOST_ATTRIBUTES
         → All (IsDepWithin (below n)) ds
         → IsSubset scheme (below n) → DropsAttributesInNoKey n (dependencies_of ds) scheme rest
         → IsKey n (dependencies_of ds) scheme k ↔ IsKey n (dependencies_of ds) rest k }
 {}
 
-/// The keys of a scheme are exactly the keys of its attributes in left sides, each with those others that
-/// the former do not determine; and they ascend as those do.
+/// The keys of a scheme are exactly the keys of its attributes in left sides, each with those others
+/// that the former do not determine; and they ascend as those do. Where few attributes stand in left
+/// sides, no schema is refused for its width.
 pub fn keys_lie_in_left_sides()
     ensures keys { (n : ℕ) (ds : List Dep) (scheme rest k : Attributes) → n ≤ MOST_ATTRIBUTES
         → All (IsDepWithin (below n)) ds
@@ -57,11 +51,7 @@ pub fn keys_lie_in_left_sides()
         × (k ≡ union rest j)) }
     ensures order { (rest x y : Attributes) → Disjoint x rest → Disjoint y rest
         → IsBefore x y ↔ IsBefore (union rest x) (union rest y) }
-{}
-
-/// Where few attributes stand in left sides, no schema is refused for its width.
-pub fn few_left_sides_are_never_refused()
-    ensures law { (theory : Theory)
+    ensures never_refused { (theory : Theory)
         → count_below (left_sides (theory_of theory)) MOST_ATTRIBUTES ≤ WIDEST_SEARCHED
         → IsTooWide theory → ⊥ }
 {}

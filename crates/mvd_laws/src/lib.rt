@@ -28,18 +28,16 @@ pub fn reduced_ones_cover_all()
         → IsThinned n fds mvds ds → IsCoverOfAll n r ds }
 {}
 
-/// A relation obeys `x -> y` exactly where as many of its different rows agree with each on `x` as on `x` and `y`.
-pub fn functional_by_counts()
-    ensures law { (n : ℕ) (r : Relation) (ones : List ℕ) → AreDifferentRows n r ones → (x y : Attributes)
+/// A relation obeys `x -> y` exactly where as many of its different rows agree with each on `x` as on
+/// `x` and `y`. It obeys `x ->> y` exactly where, for each of its different rows, those that agree with
+/// it on `x` are as many as those that agree on `x` and `y` times those that agree on `x` and the rest
+/// (Lee 1987 has it by entropies).
+pub fn obeyed_by_counts()
+    ensures functional { (n : ℕ) (r : Relation) (ones : List ℕ) → AreDifferentRows n r ones → (x y : Attributes)
         → IsSubset x (below n) → IsSubset y (below n) → (by_left by_both : List ℕ)
         → AreSizes r ones x by_left → AreSizes r ones (union x y) by_both
         → ((j : ℕ) → j < length ones → number_at by_left j ≡ number_at by_both j) ↔ ObeysFd x y r }
-{}
-
-/// It obeys `x ->> y` exactly where, for each of its different rows, those that agree with it on `x` are as many as
-/// those that agree on `x` and `y` times those that agree on `x` and the rest (Lee 1987 has it by entropies).
-pub fn multivalued_by_counts()
-    ensures law { (n : ℕ) (r : Relation) (ones : List ℕ) → AreDifferentRows n r ones → (x y : Attributes)
+    ensures multivalued { (n : ℕ) (r : Relation) (ones : List ℕ) → AreDifferentRows n r ones → (x y : Attributes)
         → IsSubset x (below n) → IsSubset y (below n) → (by_left by_both by_rest : List ℕ)
         → AreSizes r ones x by_left → AreSizes r ones (union x y) by_both
         → AreSizes r ones (union x (difference (below n) (union x y))) by_rest

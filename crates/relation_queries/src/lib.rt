@@ -12,7 +12,4 @@
 
 mod laws;
 
-pub use laws::{
-    breaches_tell_a_dependency, join_gives_the_relation, no_difference_is_left, own_values_decide,
-    queries_are_union_compatible, values_are_the_projection,
-};
+pub use laws::{queries_are_exact, queries_are_union_compatible};

@@ -17,33 +17,23 @@ ghost use Rattle.removal_laws.specs.Classes.{AreLargestClasses, in_chosen};
 ghost use Rattle.removal_laws.specs.Errors.{IsError};
 ghost use Rattle.removal_laws.specs.Removals.{IsLeastChange, IsLeastRemoval};
 
-/// The rows outside the largest class of their group are a least removal.
+/// The rows outside the largest class of their group are a least removal; and as many rows must have
+/// other values outside the left side, and that is enough.
 pub fn largest_classes_stay()
-    ensures law { (n : ℕ) (x y : Attributes) (r : Relation) (groups classes chosen : List ℕ)
+    ensures removal { (n : ℕ) (x y : Attributes) (r : Relation) (groups classes chosen : List ℕ)
         → AreGroups r x groups → AreGroups r (union x y) classes → AreLargestClasses groups classes chosen
         → IsLeastRemoval n (fd x y) r (in_chosen groups classes chosen) }
-{}
-
-/// As many rows must have other values outside the left side, and that is enough.
-pub fn least_change_is_least_removal()
-    ensures law { (n : ℕ) (x y : Attributes) (r : Relation) (groups classes chosen : List ℕ) → IsOver n r
+    ensures change { (n : ℕ) (x y : Attributes) (r : Relation) (groups classes chosen : List ℕ) → IsOver n r
         → AreGroups r x groups → AreGroups r (union x y) classes → AreLargestClasses groups classes chosen
         → IsLeastChange n x y r (in_chosen groups classes chosen) }
 {}
 
-/// Rows have one error against a dependency.
+/// Rows have one error against a dependency. It is none exactly where the rows obey the dependency, and
+/// that of a functional dependency never grows with its left side.
 pub fn one_error()
-    ensures law { (n : ℕ) (r : Relation) (d : Dependency) (one other : ℕ)
+    ensures unique { (n : ℕ) (r : Relation) (d : Dependency) (one other : ℕ)
         → IsError n r d one → IsError n r d other → one ≡ other }
-{}
-
-/// The error is none exactly where the rows obey the dependency.
-pub fn no_error_where_obeyed()
-    ensures law { (n : ℕ) (r : Relation) (d : Dependency) → IsError n r d 0 ↔ Obeys n d r }
-{}
-
-/// The error of a functional dependency never grows with its left side.
-pub fn error_never_grows()
-    ensures law { (n : ℕ) (r : Relation) (v x y : Attributes) (larger smaller : ℕ) → IsSubset v x
+    ensures none { (n : ℕ) (r : Relation) (d : Dependency) → IsError n r d 0 ↔ Obeys n d r }
+    ensures smaller { (n : ℕ) (r : Relation) (v x y : Attributes) (larger smaller : ℕ) → IsSubset v x
         → IsError n r (fd v y) larger → IsError n r (fd x y) smaller → smaller ≤ larger }
 {}

@@ -26,10 +26,7 @@ mod within;
 
 pub use breach::{BrokenPart, BrokenRow, Measure, RowMark};
 pub use keeping::kept_rows;
-pub use laws::{
-    kept_rows_are_legal, measure_counts_missing, measure_is_least, one_list_of_kept,
-    one_list_of_parts, one_list_of_rows, one_measure, removed_rows_are_least_removal,
-};
+pub use laws::{measures_are_least, one_measure};
 pub use listing::{broken_parts, broken_rows};
 pub use measuring::measure;
 pub use within::error_within;

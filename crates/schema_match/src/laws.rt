@@ -10,31 +10,22 @@ ghost use Rattle.schema_match.specs.Columns.{SameNames, reorder};
 ghost use Rattle.schema_match.specs.Carried.{carry_dependency, IsImpliedBy, HaveSameLegalRelations};
 
 /// A relation whose columns are put into the order of another schema over the same names, and back, is
-/// the same relation.
-pub fn reordered_and_back()
-    ensures law { (schema other : Schema) (r : Relation) → SameNames schema other → IsOver (width_of schema) r
-        → reorder other schema (reorder schema other r) ≡ r }
-{}
-
-/// A relation obeys a dependency exactly where it obeys it with its columns in the order of another
-/// schema over the same names, and the dependency's attributes taken by their names.
+/// the same relation. It obeys a dependency exactly where it obeys it with its columns in that order,
+/// and the dependency's attributes taken by their names.
 pub fn obeyed_by_names()
-    ensures law { (schema other : Schema) (d : Dependency) (r : Relation) → SameNames schema other
+    ensures back { (schema other : Schema) (r : Relation) → SameNames schema other → IsOver (width_of schema) r
+        → reorder other schema (reorder schema other r) ≡ r }
+    ensures obeyed { (schema other : Schema) (d : Dependency) (r : Relation) → SameNames schema other
         → IsWithin (universe_of schema) d
         → Obeys (width_of schema) d r
         ↔ Obeys (width_of other) (carry_dependency schema other d) (reorder schema other r) }
 {}
 
-/// Two schemas over the same names of which each implies the other's dependencies have the same legal
-/// relations, columns taken by their names.
-pub fn implied_both_ways()
-    ensures law { (schema other : Schema) → SameNames schema other
-        → IsImpliedBy other schema → IsImpliedBy schema other → HaveSameLegalRelations schema other }
-{}
-
-/// Of two schemas over the same names that have the same legal relations, each implies the other's
-/// dependencies.
+/// Two schemas over the same names have the same legal relations, columns taken by their names, exactly
+/// where each implies the other's dependencies.
 pub fn same_legal_relations()
+    ensures implied { (schema other : Schema) → SameNames schema other
+        → IsImpliedBy other schema → IsImpliedBy schema other → HaveSameLegalRelations schema other }
     ensures forward { (schema other : Schema) → SameNames schema other
         → HaveSameLegalRelations schema other → IsImpliedBy other schema }
     ensures backward { (schema other : Schema) → SameNames schema other

@@ -15,17 +15,14 @@ ghost use Rattle.sql_schemas.specs.Keys.{KeyColumns, keys_of};
 ghost use Rattle.sql_schemas.specs.Meaning.{IsStatedKey, declared_table, whole_keys};
 ghost use Rattle.sql_schemas.specs.Texts.{columns_missing, imported_text};
 
-/// The text of the schema of a table that SQL defines means its columns with their types, those of which a
-/// value may be missing, and a dependency for each key that has none of these.
+/// The text of the schema of a table that SQL defines means its columns with their types, those of
+/// which a value may be missing, and a dependency for each key that has none of these. Each of these
+/// keys is one that the SQL states, and no value of its columns may be missing, or NULLS NOT DISTINCT
+/// has missing values compared as others are.
 pub fn text_means_the_table()
-    ensures law { (d : Dialect) (wanted : TableName) (text printed : List ℕ) → imported_text d wanted text ≡ Ok printed
+    ensures means { (d : Dialect) (wanted : TableName) (text printed : List ℕ) → imported_text d wanted text ≡ Ok printed
         → (f : Facts) × (keys : List KeyColumns) × (lines : List ℕ) × (definition_of d wanted text ≡ Ok f)
         × (keys_of f ≡ Ok keys) × MeansSchema printed (declared_table f.columns keys lines) }
-{}
-
-/// Each of these keys is one that the SQL states, and no value of its columns may be missing, or NULLS NOT DISTINCT
-/// has missing values compared as others are.
-pub fn dependencies_are_stated_keys()
     ensures stated { (f : Facts) (keys : List KeyColumns) → keys_of f ≡ Ok keys
         → All (IsStatedKey f) (whole_keys f.columns keys) }
     ensures never_missing { (d : Dialect) (wanted : TableName) (text : List ℕ) (f : Facts) (keys : List KeyColumns)

@@ -16,23 +16,16 @@ pub fn third_gives_second()
         → IsSecond n ds scheme }
 {}
 
-/// A scheme on which a violation of a form is named is not in the form.
-pub fn named_is_not_in_form()
-    ensures law { (n : ℕ) (ds : List Dependency) (form : TestedForm) (scheme x y : Attributes)
+/// A scheme on which a violation of a form is named is not in the form. A scheme has one named
+/// violation of a form at most, and one last form.
+pub fn one_named_violation()
+    ensures not_in_form { (n : ℕ) (ds : List Dependency) (form : TestedForm) (scheme x y : Attributes)
         → IsSubset scheme (below n)
         → IsNamedViolation n ds form scheme x y → IsInTested n ds form scheme → ⊥ }
-{}
-
-/// A scheme has one named violation of a form at most.
-pub fn one_named_violation()
-    ensures law { (n : ℕ) (ds : List Dependency) (form : TestedForm) (scheme x y v w : Attributes)
+    ensures violation { (n : ℕ) (ds : List Dependency) (form : TestedForm) (scheme x y v w : Attributes)
         → IsSubset scheme (below n)
         → IsNamedViolation n ds form scheme x y → IsNamedViolation n ds form scheme v w
         → (x ≡ v) × (y ≡ w) }
-{}
-
-/// A scheme has one last form at most.
-pub fn one_last_form()
-    ensures law { (n : ℕ) (ds : List Dependency) (scheme : Attributes) (one other : Option TestedForm)
+    ensures last_form { (n : ℕ) (ds : List Dependency) (scheme : Attributes) (one other : Option TestedForm)
         → IsLastForm n ds scheme one → IsLastForm n ds scheme other → one ≡ other }
 {}

@@ -11,29 +11,22 @@ ghost use Rattle.dep_model.specs.Projections.{IsLossless};
 ghost use Rattle.wide_bcnf.specs.Pairs.{IsPair, HasPair};
 ghost use Rattle.wide_bcnf.specs.WideSplits.{IsWideSplitOf};
 
-/// A scheme without a pair is in Boyce-Codd form: what determines an attribute outside itself and leaves
-/// another one undetermined would give a pair.
-pub fn without_a_pair_in_form()
-    ensures law { (n : ℕ) (ds : List Dep) (scheme : Attributes) → n ≤ MOST_ATTRIBUTES
+/// A scheme without a pair is in Boyce-Codd form: what determines an attribute outside itself and
+/// leaves another one undetermined would give a pair. A pair of a part of a scheme is a pair of the
+/// scheme.
+pub fn pairs_decide_the_form()
+    ensures without { (n : ℕ) (ds : List Dep) (scheme : Attributes) → n ≤ MOST_ATTRIBUTES
         → All (IsDepWithin (below n)) ds → IsSubset scheme (below n)
         → (HasPair n (dependencies_of ds) scheme → ⊥)
         → IsBcnf n (dependencies_of ds) scheme }
-{}
-
-/// A pair of a part of a scheme is a pair of the scheme.
-pub fn pairs_of_a_part()
-    ensures law { (n : ℕ) (ds : List Dependency) (scheme part : Attributes) (a b : ℕ)
+    ensures part { (n : ℕ) (ds : List Dependency) (scheme part : Attributes) (a b : ℕ)
         → IsSubset part scheme → IsPair n ds part a b → IsPair n ds scheme a b }
 {}
 
-/// The wide split of the universe is lossless, whatever the width.
-pub fn wide_splits_are_lossless()
-    ensures law { (n : ℕ) (ds : List Dependency) (schemes : List Attributes)
-        → IsWideSplitOf n ds (below n) schemes → IsLossless n ds schemes }
-{}
-
-/// A scheme has one wide split alone.
+/// A scheme has one wide split alone. That of the universe is lossless, whatever the width.
 pub fn one_wide_split()
-    ensures law { (n : ℕ) (ds : List Dependency) (scheme : Attributes) (xs ys : List Attributes)
+    ensures lossless { (n : ℕ) (ds : List Dependency) (schemes : List Attributes)
+        → IsWideSplitOf n ds (below n) schemes → IsLossless n ds schemes }
+    ensures unique { (n : ℕ) (ds : List Dependency) (scheme : Attributes) (xs ys : List Attributes)
         → IsWideSplitOf n ds scheme xs → IsWideSplitOf n ds scheme ys → xs ≡ ys }
 {}
