@@ -48,11 +48,11 @@ pub fn types_are_read_back()
 /// of a design has its columns, those outside its key of which a value may be missing, and the keys
 /// that are stated, but for one of all columns.
 pub fn designs_are_read_back()
-    ensures defined { (d : Dialect) (s : Schema) (given : GivenNames) (schemes : List AttrSet) (tables : List TableDesign)
-        (k : ℕ) (table : TableDesign) → IsPrintedDesign d s given schemes tables → slice_get tables k ≡ Some table
+    ensures defined { (d : Dialect) (s : Schema) (given : GivenNames) (schemes : List AttrSet)
+        (tables : List TableDesign) (k : ℕ) (table : TableDesign) → IsPrintedDesign d s given schemes tables → slice_get tables k ≡ Some table
         → (f : Facts) × (definition_of d (named table.name) (ddl_text s tables) ≡ Ok f) × StatesTable d s table f }
-    ensures imported { (d : Dialect) (s : Schema) (given : GivenNames) (schemes : List AttrSet) (tables : List TableDesign)
-        (k : ℕ) (table : TableDesign) → IsPrintedDesign d s given schemes tables
+    ensures imported { (d : Dialect) (s : Schema) (given : GivenNames) (schemes : List AttrSet)
+        (tables : List TableDesign) (k : ℕ) (table : TableDesign) → IsPrintedDesign d s given schemes tables
         → slice_get tables k ≡ Some table
         → (printed : List ℕ) × (lines : List ℕ) × (imported_text d (named table.name) (ddl_text s tables) ≡ Ok printed)
         × MeansSchema printed (imported_table d s table lines) }

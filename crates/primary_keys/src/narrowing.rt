@@ -10,8 +10,8 @@ use dep_model::Theory;
 use fd_closure::is_functional_superkey;
 
 /// The primary key of a scheme, by all dependencies: what is left of it once each attribute that may be
-/// missing, one of `nullable`, from the last to the first, and then each other one so, was left out where the rest still
-/// determines the scheme.
+/// missing, one of `nullable`, from the last to the first, and then each other one so, was left out
+/// where the rest still determines the scheme.
 pub fn primary_key(theory: &Theory, nullable: AttrSet, scheme: AttrSet) -> AttrSet
     requires scheme { IsSubset (attributes scheme) (universe_of theory.now) }
     ensures primary { IsPrimaryKey (width_of theory.now) (theory_of theory.now) (attributes nullable)
@@ -27,9 +27,9 @@ pub fn primary_key(theory: &Theory, nullable: AttrSet, scheme: AttrSet) -> AttrS
     )
 }
 
-/// The primary key of a scheme, by the functional dependencies alone: what is left of it once each attribute
-/// that may be missing, one of `nullable`, from the last to the first, and then each other one so, was left out where the rest
-/// still determines the scheme by them.
+/// The primary key of a scheme, by the functional dependencies alone: what is left of it once each
+/// attribute that may be missing, one of `nullable`, from the last to the first, and then each other one
+/// so, was left out where the rest still determines the scheme by them.
 pub fn functional_primary_key(theory: &Theory, nullable: AttrSet, scheme: AttrSet) -> AttrSet
     requires scheme { IsSubset (attributes scheme) (universe_of theory.now) }
     ensures primary { IsPrimaryKey (width_of theory.now) (functional_part (theory_of theory.now))

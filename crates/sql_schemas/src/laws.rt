@@ -20,7 +20,8 @@ ghost use Rattle.sql_schemas.specs.Texts.{columns_missing, imported_text};
 /// keys is one that the SQL states, and no value of its columns may be missing, or NULLS NOT DISTINCT
 /// has missing values compared as others are.
 pub fn text_means_the_table()
-    ensures means { (d : Dialect) (wanted : TableName) (text printed : List ℕ) → imported_text d wanted text ≡ Ok printed
+    ensures means { (d : Dialect) (wanted : TableName) (text printed : List ℕ)
+        → imported_text d wanted text ≡ Ok printed
         → (f : Facts) × (keys : List KeyColumns) × (lines : List ℕ) × (definition_of d wanted text ≡ Ok f)
         × (keys_of f ≡ Ok keys) × MeansSchema printed (declared_table f.columns keys lines) }
     ensures stated { (f : Facts) (keys : List KeyColumns) → keys_of f ≡ Ok keys
