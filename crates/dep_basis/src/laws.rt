@@ -12,33 +12,26 @@ ghost use Rattle.dep_basis.specs.Decisions.{IsBrokenBy};
 ghost use Rattle.dep_basis.specs.Parts.{HasTwoParts};
 
 /// Where all dependencies are functional, a left side has one block at most: all that is outside its
-/// closure (Beeri 1980).
+/// closure (Beeri 1980). The two rows that show that a dependency is not implied then agree exactly on
+/// the closure of its left side (Sagiv, Delobel, Parker and Fagin 1981).
 pub fn one_block()
-    ensures law { (n : ℕ) (ds : List Dependency) (x p : Attributes) → All (IsWithin (below n)) ds
+    ensures block { (n : ℕ) (ds : List Dependency) (x p : Attributes) → All (IsWithin (below n)) ds
         → functional_part ds ≡ ds → IsSubset x (below n) → IsBlock n ds x p
         → (a : ℕ) → (p a ≡ true) ↔ ((a < n) × (InClosure n ds x a → ⊥)) }
-{}
-
-/// Where all dependencies are functional, the two rows that show that a dependency is not implied agree
-/// exactly on the closure of its left side (Sagiv, Delobel, Parker and Fagin 1981).
-pub fn agrees_on_the_closure()
-    ensures law { (n : ℕ) (ds : List Dependency) (d : Dependency) (agreement : Attributes)
+    ensures agreement { (n : ℕ) (ds : List Dependency) (d : Dependency) (agreement : Attributes)
         → All (IsWithin (below n)) ds → functional_part ds ≡ ds → IsWithin (below n) d
         → IsBrokenBy n ds d agreement → (a : ℕ) → (agreement a ≡ true) ↔ InClosure n ds (left_of d) a }
 {}
 
-/// Each attribute is determined, or it is in a block.
+/// Each attribute is determined, or it is in a block. An attribute in no given left side adds only
+/// itself: where `l` has all left sides, the closed set of `x` is that of what `x` has of `l`, together
+/// with `x`, and the blocks of `x` are what the blocks of that have beyond `x`. A left side with two
+/// parts on a scheme, of which one is not within the other, has two parts.
 pub fn closed_or_in_a_block()
-    ensures law { (n : ℕ) (ds : List Dep) (x : Attributes) (a : ℕ) → n ≤ MOST_ATTRIBUTES
+    ensures either { (n : ℕ) (ds : List Dep) (x : Attributes) (a : ℕ) → n ≤ MOST_ATTRIBUTES
         → All (IsDepWithin (below n)) ds → IsSubset x (below n) → a < n
         → InClosure n (dependencies_of ds) x a
         ⊎ ((p : Attributes) × IsBlock n (dependencies_of ds) x p × (p a ≡ true)) }
-{}
-
-/// An attribute in no given left side adds only itself: where `l` has all left sides, the closed set of
-/// `x` is that of what `x` has of `l`, together with `x`, and the blocks of `x` are what the blocks of
-/// that have beyond `x`.
-pub fn adds_only_itself()
     ensures closed { (n : ℕ) (ds : List Dep) (l x : Attributes) → n ≤ MOST_ATTRIBUTES
         → All (IsDepWithin (below n)) ds
         → All (λ d. IsSubset (left_of (dependency_of d)) l) ds → IsSubset x (below n)
@@ -50,11 +43,7 @@ pub fn adds_only_itself()
         → (p : Attributes) → IsBlock n (dependencies_of ds) x p
         ↔ ((q : Attributes) × IsBlock n (dependencies_of ds) (intersection x l) q × (p
         ≡ difference q x) × (IsEmpty p → ⊥)) }
-{}
-
-/// A left side with two parts on a scheme, of which one is not within the other, has two parts.
-pub fn two_parts()
-    ensures law { (n : ℕ) (ds : List Dependency) (scheme x p q : Attributes) → IsSubset scheme (below n)
+    ensures two_parts { (n : ℕ) (ds : List Dependency) (scheme x p q : Attributes) → IsSubset scheme (below n)
         → IsPartOn n ds scheme x p → IsPartOn n ds scheme x q → (IsSubset q p → ⊥)
         → HasTwoParts n ds scheme x }
 {}

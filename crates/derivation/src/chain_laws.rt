@@ -12,26 +12,15 @@ ghost use Rattle.derivation.specs.Trees.{Tree, nodes, depth};
 ghost use Rattle.derivation.specs.Conclusions.{Proves};
 ghost use Rattle.derivation.specs.Chains.{IsFunctionalChain};
 
-/// A dependency has one functional chain at most.
+/// A dependency has one functional chain at most, which proves it; what has one is implied by the
+/// functional dependencies alone. It has few nodes and levels.
 pub fn one_chain()
-    ensures law { (s : Theory) (x y : Attributes) (t u : Tree) → IsFunctionalChain s x y t
+    ensures unique { (s : Theory) (x y : Attributes) (t u : Tree) → IsFunctionalChain s x y t
         → IsFunctionalChain s x y u → t ≡ u }
-{}
-
-/// The functional chain of a dependency proves it.
-pub fn chain_proves()
-    ensures law { (s : Theory) (x y : Attributes) (t : Tree) → IsSubset x (universe_of s)
+    ensures proves { (s : Theory) (x y : Attributes) (t : Tree) → IsSubset x (universe_of s)
         → IsFunctionalChain s x y t → Proves s t (fd x y) }
-{}
-
-/// What has a functional chain is implied by the functional dependencies alone.
-pub fn chain_is_functional()
-    ensures law { (s : Theory) (x y : Attributes) (t : Tree) → IsFunctionalChain s x y t
+    ensures functional { (s : Theory) (x y : Attributes) (t : Tree) → IsFunctionalChain s x y t
         → Implies (width_of s) (functional_part (theory_of s)) (fd x y) }
-{}
-
-/// A functional chain has few nodes and levels.
-pub fn chain_is_small()
     ensures nodes { (s : Theory) (x y : Attributes) (t : Tree) → IsFunctionalChain s x y t
         → nodes t ≤ 3 * MOST_ATTRIBUTES + 3 }
     ensures levels { (s : Theory) (x y : Attributes) (t : Tree)

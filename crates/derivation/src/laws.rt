@@ -14,19 +14,12 @@ pub fn soundness()
     ensures law { (s : Theory) (t : Tree) (d : Dependency) → Proves s t d → ImpliedBy s d }
 {}
 
-/// A tree proves one dependency at most.
+/// A tree proves one dependency at most. What it concludes is what it proves, wherever its nodes are
+/// counted from, and its first fault is at one of its nodes.
 pub fn one_conclusion()
-    ensures law { (s : Theory) (t : Tree) (d e : Dependency) → Proves s t d → Proves s t e → d ≡ e }
-{}
-
-/// What a tree concludes is what it proves, wherever its nodes are counted from.
-pub fn conclusion_is_proved()
-    ensures law { (s : Theory) (before : ℕ) (t : Tree) (d : Dependency)
+    ensures unique { (s : Theory) (t : Tree) (d e : Dependency) → Proves s t d → Proves s t e → d ≡ e }
+    ensures proved { (s : Theory) (before : ℕ) (t : Tree) (d : Dependency)
         → conclusion_after s before t ≡ Ok d ↔ Proves s t d }
-{}
-
-/// The first fault of a tree is at one of its nodes.
-pub fn fault_is_inside()
-    ensures law { (s : Theory) (before : ℕ) (t : Tree) (f : Fault) → conclusion_after s before t ≡ Err f
+    ensures fault { (s : Theory) (before : ℕ) (t : Tree) (f : Fault) → conclusion_after s before t ≡ Err f
         → (before < f.node) × (f.node ≤ before + nodes t) }
 {}

@@ -2,13 +2,10 @@
 
 ghost use Rattle.lexer.specs.Laws.{NamesAreTested, QuotedNames};
 
-/// The test of what stands between quotes takes exactly names.
-pub fn names_are_tested()
-    ensures law { NamesAreTested }
-{}
-
-/// The text of a name between quotes, in which each double quote is doubled, is one token for that name, as
-/// long as the text, whatever follows but a double quote.
+/// The test of what stands between quotes takes exactly names. The text of a name between quotes, in
+/// which each double quote is doubled, is one token for that name, as long as the text, whatever
+/// follows but a double quote.
 pub fn quoted_names()
-    ensures law { QuotedNames }
+    ensures tested { NamesAreTested }
+    ensures one_token { QuotedNames }
 {}

@@ -21,7 +21,7 @@ mod token;
 mod word;
 
 pub use bytes::{are_digits, number_of};
-pub use laws::{names_are_tested, quoted_names};
+pub use laws::quoted_names;
 pub use line::{cut_line, without_mark};
 pub use mode::Mode;
 pub use quotes::{QuotedName, closing_quote, name_between};

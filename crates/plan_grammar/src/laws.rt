@@ -16,16 +16,12 @@ use plans::MOST_SCHEMES;
 use schema_grammar::Format;
 use schema_model::Naming;
 
-/// Lines are read as the tables that they mean.
+/// Lines are read as the tables that they mean, or refused by their first diagnostic.
 pub fn lines_are_read()
-    ensures law { (naming : Naming) (names lines : List (List ℕ)) (plan : NamedSchemes)
+    ensures read { (naming : Naming) (names lines : List (List ℕ)) (plan : NamedSchemes)
         → read_table_lines naming names 1 no_tables lines ≡ Ok plan
         → MeansTableLines naming names [] lines plan × (length plan.schemes ≤ MOST_SCHEMES) }
-{}
-
-/// Lines are refused by their first diagnostic.
-pub fn lines_are_refused()
-    ensures law { (naming : Naming) (names lines : List (List ℕ)) (refusal : PlanRefusal)
+    ensures refused { (naming : Naming) (names lines : List (List ℕ)) (refusal : PlanRefusal)
         → read_table_lines naming names 1 no_tables lines ≡ Err refusal
         → RefusesTableLines naming names 1 [] lines refusal }
 {}

@@ -12,8 +12,5 @@
 mod laws;
 mod refusal;
 
-pub use laws::{
-    lines_are_read, lines_are_refused, names_are_apart, plan_texts_have_one_answer,
-    printed_plan_means,
-};
+pub use laws::{lines_are_read, names_are_apart, plan_texts_have_one_answer, printed_plan_means};
 pub use refusal::PlanRefusal;

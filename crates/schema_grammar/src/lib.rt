@@ -18,11 +18,7 @@ mod refusal_texts;
 mod symbol;
 
 pub use format::{FULL_VERSION, Format, MOST_DEPENDENCY_LINES, TYPED_VERSION};
-pub use laws::{
-    declared_names, goal_diagnostic, goal_meaning, goal_refusal, line_diagnostic, lines_diagnostic,
-    positions_rise, printed_schema_means, schema_diagnostic, schema_meaning, schema_refusal,
-    set_diagnostic, set_meaning, set_refusal,
-};
+pub use laws::{declared_names, first_diagnostics_refuse, goals_are_read_or_refused, printed_schema_means, schemas_are_read_or_refused, sets_are_read_or_refused};
 pub use line_kind::{LineKind, Purpose};
 pub use refusal::{SchemaRefusal, SchemaRefusalKind, Span, What};
 pub use symbol::{Sign, Symbol};
