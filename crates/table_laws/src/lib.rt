@@ -32,9 +32,10 @@ ghost use Rattle.destinations.specs.Sql.{quoted_text, sql_value, sql_cell};
 ghost use Rattle.destinations.specs.declared.format.TableFormat.TheVariants.{Csv};
 ghost use Rattle.table_laws.specs.References.{ReferencesAreStated};
 
-/// The CSV file of a table means its rows, where they fit the types of the columns and are no more than a
-/// file may have, whatever the names: of a table with all attributes of a schema, and of one with some of them, at
-/// least one.
+/// The CSV file of a table means its rows, where they fit the types of the columns and are no more than
+/// a file may have, whatever the names: of a table with all attributes of a schema, and of one with
+/// some of them, at least one. So does that of each table of a migration, where the rows that were
+/// migrated do so, and no scheme of the design is empty.
 pub fn files_of_tables_are_read_back()
     ensures whole { (s : Schema) (table : TableValue) → All IsName (names_of s)
         → table.columns ≡ names_of s → IsOver (width_of s) table.rows → FitsColumns s table.rows
@@ -45,27 +46,18 @@ pub fn files_of_tables_are_read_back()
         → All (λ t. (k : ℕ) (column : ColumnType) → x k ≡ true → slice_get (types_of s) k ≡ Some column
         → FitsColumn column (nullable_of s k) (value_in x t k)) table.rows
         → length table.rows ≤ MOST_ROWS → PartOf s (table_file Csv table).bytes (Ok table.rows) }
-{}
-
-/// The CSV file of each table of a migration means the rows of that table, where the rows that were migrated
-/// fit the types of the columns and are no more than a file may have, and no scheme of the design is empty.
-pub fn migrated_tables_are_read_back()
-    ensures law { (s : Schema) (names : GivenNames) (design : List KeyedScheme) (rows : Relation)
+    ensures migrated { (s : Schema) (names : GivenNames) (design : List KeyedScheme) (rows : Relation)
         → All IsName (names_of s) → IsOver (width_of s) rows → FitsColumns s rows
         → length rows ≤ MOST_ROWS → All (λ table. 0 < count_below (attributes table.scheme) (width_of s)) design
         → All (λ table. PartOf s (table_file Csv table).bytes (Ok table.rows))
         (tables_of_migration s names design rows) }
 {}
 
-/// A text between single quotes determines the text: two values with the same one are the same. So nothing is lost
-/// in an INSERT line.
-pub fn texts_of_values_differ()
-    ensures law { (one other : List ℕ) → quoted_text one ≡ quoted_text other → one ≡ other }
-{}
-
-/// What stands for a value in an INSERT line determines the value, also that it is missing: in one column two values
-/// with the same text are the same.
+/// A text between single quotes determines the text: two values with the same one are the same. What
+/// stands for a value in an INSERT line determines the value, also that it is missing: in one column
+/// two values with the same text are the same. So nothing is lost in an INSERT line.
 pub fn cells_of_values_differ()
+    ensures texts { (one other : List ℕ) → quoted_text one ≡ quoted_text other → one ≡ other }
     ensures values { (one other : List ℕ) → IsBytes one → IsBytes other
         → sql_value one ≡ sql_value other → one ≡ other }
     ensures cells { (nullable : Bool) (one other : List ℕ) → IsBytes one

@@ -14,59 +14,35 @@ ghost use Rattle.dep_model.specs.TwoTuples.{two_tuples};
 ghost use Rattle.column_values.specs.Values.{FitsColumns};
 ghost use Rattle.typed_rows.specs.Typed.{typed_tuple, typed_relation, AreNumerals, HoldsNumerals, ShowsNumerals};
 
-/// Two tuples of numerals agree exactly where the same with values of the columns' types do.
-pub fn typed_tuples_agree()
-    ensures law { (columns : List ColumnType) (x : Attributes) (t u : Tuple)
+/// Two tuples of numerals agree exactly where the same with values of the columns' types do. A relation
+/// of numerals obeys a dependency, is legal, has a tuple, or has it in the join of its projections,
+/// exactly where the same with values of the columns' types does; and these values fit the columns.
+pub fn typed_relations_are_alike()
+    ensures agree { (columns : List ColumnType) (x : Attributes) (t u : Tuple)
         → length t ≡ length columns → length u ≡ length columns → AreNumerals t → AreNumerals u
         → AgreeOn x t u ↔ AgreeOn x (typed_tuple columns t) (typed_tuple columns u) }
-{}
-
-/// A relation of numerals obeys a dependency exactly where the same with values of the columns' types
-/// does.
-pub fn typed_relation_obeys()
-    ensures law { (columns : List ColumnType) (d : Dependency) (r : Relation)
+    ensures obeys { (columns : List ColumnType) (d : Dependency) (r : Relation)
         → IsOver (length columns) r → HoldsNumerals r
         → Obeys (length columns) d r ↔ Obeys (length columns) d (typed_relation columns r) }
-{}
-
-/// It is legal exactly where the other is.
-pub fn typed_relation_is_legal()
-    ensures law { (columns : List ColumnType) (ds : List Dependency) (r : Relation)
+    ensures legal { (columns : List ColumnType) (ds : List Dependency) (r : Relation)
         → IsOver (length columns) r → HoldsNumerals r
         → IsLegal (length columns) ds r ↔ IsLegal (length columns) ds (typed_relation columns r) }
-{}
-
-/// The values of the columns' types fit the columns.
-pub fn typed_relation_fits()
-    ensures law { (s : Schema) (r : Relation) → IsOver (width_of s) r → HoldsNumerals r
+    ensures fits { (s : Schema) (r : Relation) → IsOver (width_of s) r → HoldsNumerals r
         → FitsColumns s (typed_relation (types_of s) r) }
-{}
-
-/// A tuple is in a relation of numerals exactly where it is in the other with values of the columns'
-/// types.
-pub fn typed_relation_contains()
-    ensures law { (columns : List ColumnType) (r : Relation) (t : Tuple)
+    ensures contains { (columns : List ColumnType) (r : Relation) (t : Tuple)
         → IsOver (length columns) r → HoldsNumerals r → length t ≡ length columns → AreNumerals t
         → Contains r t ↔ Contains (typed_relation columns r) (typed_tuple columns t) }
-{}
-
-/// A tuple is in the join of the projections of a relation of numerals exactly where it is, with values
-/// of the columns' types, in that of the other.
-pub fn typed_relation_joins()
-    ensures law { (columns : List ColumnType) (plan : List Attributes) (r : Relation) (t : Tuple)
+    ensures joins { (columns : List ColumnType) (plan : List Attributes) (r : Relation) (t : Tuple)
         → IsOver (length columns) r → HoldsNumerals r → length t ≡ length columns → AreNumerals t
         → InJoin (length columns) plan (projections plan r) t
         ↔ InJoin (length columns) plan (projections plan (typed_relation columns r)) (typed_tuple columns t) }
 {}
 
-/// Columns of text, of integers and of other types show the numerals as they are.
+/// Columns of text, of integers and of other types show the numerals as they are. The two tuples that
+/// agree exactly on a set are numerals.
 pub fn numerals_stay()
-    ensures law { (columns : List ColumnType) (r : Relation)
+    ensures stay { (columns : List ColumnType) (r : Relation)
         → All ShowsNumerals columns → IsOver (length columns) r → HoldsNumerals r
         → typed_relation columns r ≡ r }
-{}
-
-/// The two tuples that agree exactly on a set are numerals.
-pub fn two_tuples_are_numerals()
-    ensures law { (n : ℕ) (x : Attributes) → HoldsNumerals (two_tuples n x) }
+    ensures two_tuples { (n : ℕ) (x : Attributes) → HoldsNumerals (two_tuples n x) }
 {}

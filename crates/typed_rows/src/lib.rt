@@ -16,6 +16,6 @@ mod made_up_laws;
 mod printing;
 mod typing;
 
-pub use made_up_laws::{exhibits_hold_numerals, tableaux_hold_numerals, typed_relation_gains};
+pub use made_up_laws::{made_up_rows_hold_numerals, typed_relation_gains};
 pub use printing::{print_made_up, print_two_rows, print_zeros};
 pub use typing::{typed_row, typed_rows};

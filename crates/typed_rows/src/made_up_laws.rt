@@ -13,19 +13,16 @@ ghost use Rattle.armstrong_rel.specs.Exhibits.{tuples_for};
 ghost use Rattle.column_values.specs.declared.making.TheConstants.{MADE_UP_VALUES};
 ghost use Rattle.typed_rows.specs.Typed.{typed_tuple, typed_relation, HoldsNumerals};
 
-/// The texts of a tableau that is reached from a plan of fewer than `MADE_UP_VALUES` schemes are numerals.
-pub fn tableaux_hold_numerals()
-    ensures law { (n : ℕ) (ds : List Dependency) (plan : List Attributes) (s : Tableau)
+/// The texts of a tableau that is reached from a plan of fewer than `MADE_UP_VALUES` schemes are
+/// numerals, and so are the tuples for fewer than `MADE_UP_VALUES` sets.
+pub fn made_up_rows_hold_numerals()
+    ensures tableau { (n : ℕ) (ds : List Dependency) (plan : List Attributes) (s : Tableau)
         → length plan < MADE_UP_VALUES → ReachesTableau n ds plan s → HoldsNumerals (texts_of s) }
-    ensures over { (n : ℕ) (ds : List Dependency) (plan : List Attributes) (s : Tableau)
+    ensures tableau_over { (n : ℕ) (ds : List Dependency) (plan : List Attributes) (s : Tableau)
         → ReachesTableau n ds plan s → IsOver n (texts_of s) }
-{}
-
-/// The tuples for fewer than `MADE_UP_VALUES` sets are numerals.
-pub fn exhibits_hold_numerals()
-    ensures law { (n : ℕ) (sets : List Attributes)
+    ensures exhibit { (n : ℕ) (sets : List Attributes)
         → length sets < MADE_UP_VALUES → HoldsNumerals (tuples_for n sets) }
-    ensures over { (n : ℕ) (sets : List Attributes) → IsOver n (tuples_for n sets) }
+    ensures exhibit_over { (n : ℕ) (sets : List Attributes) → IsOver n (tuples_for n sets) }
 {}
 
 /// A relation of numerals that gains the tuple of all `0` is, with values of the columns' types, legal and
