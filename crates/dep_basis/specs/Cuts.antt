@@ -1,8 +1,7 @@
 -- The dependencies that cut a part, and the best of them: for the functions below `basis` and
 -- `prove`. `Desk` does not cite it.
-use Rattle.std.specs.Prelude.{◌≡◌, ℕ, ◌+◌, ◌*◌, ◌<◌, ◌≤◌, List, length, true, false, ◌⊎◌, Option, Some, IsSome, IfSome, slice_index_or, if◌then◌else◌}
+use Rattle.std.specs.Prelude.{◌≡◌, ℕ, ◌<◌, ◌≤◌, List, length, true, false, ◌⊎◌, Option, Some, IsSome, IfSome, slice_index_or, if◌then◌else◌}
 use Rattle.attr_sets.specs.Attributes.{Attributes, none, intersection, difference, Disjoint, Intersects, count_below}
-use Rattle.attr_sets.specs.Sets.{attributes}
 use Rattle.attr_sets.specs.declared.set.TheConstants.{MOST_ATTRIBUTES}
 use Rattle.dep_model.specs.Dependencies.{Dependency, left_of, right_of, is_fd}
 use Rattle.dep_model.specs.declared.dep.Dep.{Dep}

@@ -11,71 +11,36 @@ ghost use Rattle.dep_model.specs.OnSchemes.{value_in};
 ghost use Rattle.dep_model.specs.Keys.{IsSuperkey, IsKey, IsGreedyKey};
 ghost use Rattle.dep_model.specs.TwoTuples.{all_zeros, zeros_on};
 
-/// The relation without a tuple obeys every dependency.
-pub fn no_tuple_obeys()
-    ensures law { (n : ℕ) (d : Dependency) → Obeys n d [] }
+/// The relation without a tuple, and each relation of one tuple, obey every dependency.
+pub fn small_relations_obey()
+    ensures none { (n : ℕ) (d : Dependency) → Obeys n d [] }
+    ensures one { (n : ℕ) (d : Dependency) (t : Tuple) → Obeys n d (t ∷ []) }
 {}
 
-/// A relation of one tuple obeys every dependency.
-pub fn one_tuple_obeys()
-    ensures law { (n : ℕ) (d : Dependency) (t : Tuple) → Obeys n d (t ∷ []) }
-{}
-
-/// A legal relation obeys each given dependency.
-pub fn given_dependency()
-    ensures law { (n : ℕ) (ds : List Dependency) (r : Relation) (d : Dependency) → IsLegal n ds r
+/// The rules of inference are sound over every relation (Armstrong 1974; Beeri, Fagin and Howard 1977).
+/// A legal relation obeys each given dependency. Reflexivity: `y` within `x` gives `x -> y`, and `x ->>
+/// y`. Augmentation: `x -> y` gives `xz -> yz`, and `x ->> y` gives `xw ->> yz` for `z` within `w`.
+/// Transitivity: `x -> y` and `y -> z` give `x -> z`, and `x ->> y` and `y ->> z` give `x ->> z - y`.
+/// Complementation: `x ->> y` gives `x ->>` the rest of the scheme. Replication: `x -> y` gives `x ->>
+/// y`. Coalescence: `x ->> y` and `z -> w` give `x -> w` for `w` within `y` and `z` apart from `y`.
+pub fn rules_are_sound()
+    ensures given { (n : ℕ) (ds : List Dependency) (r : Relation) (d : Dependency) → IsLegal n ds r
         → Contains ds d → Obeys n d r }
-{}
-
-/// Reflexivity: `y` within `x` gives `x -> y`.
-pub fn reflexivity()
-    ensures law { (x y : Attributes) (r : Relation) → IsSubset y x → ObeysFd x y r }
-{}
-
-/// Augmentation: `x -> y` gives `xz -> yz`.
-pub fn augmentation()
-    ensures law { (x y z : Attributes) (r : Relation) → ObeysFd x y r
+    ensures reflexivity { (x y : Attributes) (r : Relation) → IsSubset y x → ObeysFd x y r }
+    ensures augmentation { (x y z : Attributes) (r : Relation) → ObeysFd x y r
         → ObeysFd (union x z) (union y z) r }
-{}
-
-/// Transitivity: `x -> y` and `y -> z` give `x -> z`.
-pub fn transitivity()
-    ensures law { (x y z : Attributes) (r : Relation) → ObeysFd x y r → ObeysFd y z r → ObeysFd x z r }
-{}
-
-/// Complementation: `x ->> y` gives `x ->>` the rest of the scheme.
-pub fn complementation()
-    ensures law { (scheme x y : Attributes) (r : Relation) → ObeysMvd scheme x y r
+    ensures transitivity { (x y z : Attributes) (r : Relation) → ObeysFd x y r → ObeysFd y z r → ObeysFd x z r }
+    ensures complementation { (scheme x y : Attributes) (r : Relation) → ObeysMvd scheme x y r
         → ObeysMvd scheme x (difference scheme (union x y)) r }
-{}
-
-/// Reflexivity of multivalued dependencies: `y` within `x` gives `x ->> y`.
-pub fn multivalued_reflexivity()
-    ensures law { (scheme x y : Attributes) (r : Relation) → IsSubset y x → ObeysMvd scheme x y r }
-{}
-
-/// Augmentation of multivalued dependencies: `x ->> y` gives `xw ->> yz` for `z` within `w`.
-pub fn multivalued_augmentation()
-    ensures law { (scheme x y w z : Attributes) (r : Relation) → IsSubset z w → IsSubset w scheme
+    ensures multivalued_reflexivity { (scheme x y : Attributes) (r : Relation) → IsSubset y x → ObeysMvd scheme x y r }
+    ensures multivalued_augmentation { (scheme x y w z : Attributes) (r : Relation) → IsSubset z w → IsSubset w scheme
         → ObeysMvd scheme x y r
         → ObeysMvd scheme (union x w) (union y z) r }
-{}
-
-/// Transitivity of multivalued dependencies: `x ->> y` and `y ->> z` give `x ->> z - y`.
-pub fn multivalued_transitivity()
-    ensures law { (scheme x y z : Attributes) (r : Relation) → IsSubset x scheme → IsSubset z scheme
+    ensures multivalued_transitivity { (scheme x y z : Attributes) (r : Relation) → IsSubset x scheme → IsSubset z scheme
         → ObeysMvd scheme x y r → ObeysMvd scheme y z r
         → ObeysMvd scheme x (difference z y) r }
-{}
-
-/// Replication: `x -> y` gives `x ->> y`.
-pub fn replication()
-    ensures law { (scheme x y : Attributes) (r : Relation) → ObeysFd x y r → ObeysMvd scheme x y r }
-{}
-
-/// Coalescence: `x ->> y` and `z -> w` give `x -> w` for `w` within `y` and `z` apart from `y`.
-pub fn coalescence()
-    ensures law { (scheme x y z w : Attributes) (r : Relation) → IsSubset z scheme → IsSubset w y
+    ensures replication { (scheme x y : Attributes) (r : Relation) → ObeysFd x y r → ObeysMvd scheme x y r }
+    ensures coalescence { (scheme x y z w : Attributes) (r : Relation) → IsSubset z scheme → IsSubset w y
         → Disjoint z y
         → ObeysMvd scheme x y r → ObeysFd z w r
         → ObeysFd x w r }
@@ -92,42 +57,28 @@ pub fn universe_is_lossless()
     ensures law { (n : ℕ) (ds : List Dependency) → IsLossless n ds (below n ∷ []) }
 {}
 
-/// A scheme is a superkey of itself, so the universe is.
-pub fn scheme_is_superkey()
-    ensures law { (n : ℕ) (ds : List Dependency) (scheme : Attributes) → IsSuperkey n ds scheme scheme }
-{}
-
-/// A set of a scheme's attributes that holds a superkey is one.
-pub fn superkey_grows()
-    ensures law { (n : ℕ) (ds : List Dependency) (scheme j k : Attributes) → IsSubset j k
+/// A scheme is a superkey of itself, so the universe is; a set of a scheme's attributes that holds a
+/// superkey is one. The greedy key of a scheme is a key.
+pub fn superkeys_grow()
+    ensures scheme { (n : ℕ) (ds : List Dependency) (scheme : Attributes) → IsSuperkey n ds scheme scheme }
+    ensures grows { (n : ℕ) (ds : List Dependency) (scheme j k : Attributes) → IsSubset j k
         → IsSubset k scheme
         → IsSuperkey n ds scheme j
         → IsSuperkey n ds scheme k }
-{}
-
-/// The greedy key of a scheme is a key.
-pub fn greedy_key_is_key()
-    ensures law { (n : ℕ) (ds : List Dependency) (scheme k : Attributes) → IsSubset scheme (below n)
+    ensures greedy { (n : ℕ) (ds : List Dependency) (scheme k : Attributes) → IsSubset scheme (below n)
         → IsGreedyKey n ds scheme k → IsKey n ds scheme k }
 {}
 
-/// The two tuples of a set agree exactly on it.
-pub fn two_tuples_agree()
-    ensures law { (n : ℕ) (a : Attributes) → AgreeExactly n a (all_zeros n) (zeros_on n a) }
-{}
-
-/// Two tuples that agree exactly on `a` obey `x -> y` exactly where `x` within `a` gives `y` within `a`
-/// (Sagiv, Delobel, Parker and Fagin 1981).
-pub fn two_tuples_functional()
-    ensures law { (n : ℕ) (a x y : Attributes) (t u : Tuple) → AgreeExactly n a t u
+/// The two tuples of a set agree exactly on it. Two tuples that agree exactly on `a` obey `x -> y`
+/// exactly where `x` within `a` gives `y` within `a` (Sagiv, Delobel, Parker and Fagin 1981), and `x
+/// ->> y` exactly where it gives `y` or the rest within `a`.
+pub fn two_tuples_obey()
+    ensures agree { (n : ℕ) (a : Attributes) → AgreeExactly n a (all_zeros n) (zeros_on n a) }
+    ensures functional { (n : ℕ) (a x y : Attributes) (t u : Tuple) → AgreeExactly n a t u
         → IsSubset x (below n)
         → IsSubset y (below n)
         → ObeysFd x y (t ∷ u ∷ []) ↔ (IsSubset x a → IsSubset y a) }
-{}
-
-/// They obey `x ->> y` exactly where it gives `y` or the rest within `a`.
-pub fn two_tuples_multivalued()
-    ensures law { (n : ℕ) (a x y : Attributes) (t u : Tuple) → AgreeExactly n a t u
+    ensures multivalued { (n : ℕ) (a x y : Attributes) (t u : Tuple) → AgreeExactly n a t u
         → IsSubset x (below n)
         → IsSubset y (below n)
         → ObeysMvd (below n) x y (t ∷ u ∷ [])

@@ -15,48 +15,36 @@ pub fn legal_for_what_is_implied()
         → IsLegal n ds r → IsLegal n es r }
 {}
 
-/// A relation's tuples are in the join of its projections.
-pub fn tuples_are_in_the_join()
-    ensures law { (n : ℕ) (plan : List Attributes) (r : Relation) (t : Tuple) → IsOver n r
+/// A relation's tuples are in the join of its projections. The projection on a part of a scheme is the
+/// projection of the projection. The ordered projection is the same relation as the projection, and has
+/// no tuple twice.
+pub fn joins_hold_projections()
+    ensures join { (n : ℕ) (plan : List Attributes) (r : Relation) (t : Tuple) → IsOver n r
         → Contains r t
         → InJoin n plan (projections plan r) t }
-{}
-
-/// The projection on a part of a scheme is the projection of the projection.
-pub fn projection_of_a_projection()
-    ensures law { (n : ℕ) (scheme part : Attributes) (t : Tuple) → IsSubset part scheme → length t ≡ n
+    ensures part { (n : ℕ) (scheme part : Attributes) (t : Tuple) → IsSubset part scheme → length t ≡ n
         → map (λ k. value_in scheme (project_tuple scheme t) k) (members_below n part)
         ≡ project_tuple part t }
-{}
-
-/// The ordered projection is the same relation as the projection, and has no tuple twice.
-pub fn ordered_projection_is_distinct()
-    ensures law { (scheme : Attributes) (r : Relation)
+    ensures ordered { (scheme : Attributes) (r : Relation)
         → SameRelation (projection scheme r) (ordered_projection scheme r)
         × AllPairs (λ t u. t ≡ u → ⊥) (ordered_projection scheme r) }
 {}
 
 /// A plan stays lossless where a scheme is replaced by two: the sides of a multivalued dependency that
-/// is implied on it, and the scheme without the right side (Fagin 1977).
-pub fn split_is_lossless()
-    ensures law { (n : ℕ) (ds : List Dependency) (before after : List Attributes)
+/// is implied on it, and the scheme without the right side (Fagin 1977); and where a scheme that lies
+/// within another one, or equals it, is dropped. A plan in which each given functional dependency lies
+/// within some scheme keeps the dependencies.
+pub fn plans_stay_lossless()
+    ensures split { (n : ℕ) (ds : List Dependency) (before after : List Attributes)
         (scheme x y : Attributes)
         → ImpliedOn n ds scheme (mvd x y) → Disjoint y x
         → IsLossless n ds (before ++ scheme ∷ after)
         → IsLossless n ds (before ++ union x y ∷ difference scheme y ∷ after) }
-{}
-
-/// A plan stays lossless where a scheme that lies within another one, or equals it, is dropped.
-pub fn contained_scheme_is_dropped()
-    ensures law { (n : ℕ) (ds : List Dependency) (before after : List Attributes)
+    ensures dropped { (n : ℕ) (ds : List Dependency) (before after : List Attributes)
         (scheme other : Attributes)
         → Contains (before ++ after) other → IsSubset scheme other
         → IsLossless n ds (before ++ scheme ∷ after) → IsLossless n ds (before ++ after) }
-{}
-
-/// A plan in which each given functional dependency lies within some scheme keeps the dependencies.
-pub fn schemes_of_the_given_keep_dependencies()
-    ensures law { (n : ℕ) (ds : List Dependency) (plan : List Attributes)
+    ensures keeps { (n : ℕ) (ds : List Dependency) (plan : List Attributes)
         → All (λ d. Any (λ (scheme : Attributes). IsSubset (union (left_of d)
         (right_of d)) scheme) plan)
         (functional_part ds)

@@ -10,7 +10,7 @@ ghost use Rattle.normal_forms.specs.Cuts.{IsCut};
 
 /// A scheme on which a form is violated is not in the form. The sides of a violation of Boyce-Codd or
 /// fourth form part the scheme; so it can be replaced by two smaller schemes without loss
-/// (`dep_model::laws_of_joins::split_is_lossless`).
+/// (`dep_model::laws_of_joins::plans_stay_lossless`).
 pub fn violated_is_not_in_form()
     ensures not_in_form { (n : ℕ) (ds : List Dependency) (form : Form) (scheme x y : Attributes)
         → IsSubset scheme (below n)
