@@ -18,11 +18,12 @@ pub fn small_relations_obey()
 {}
 
 /// The rules of inference are sound over every relation (Armstrong 1974; Beeri, Fagin and Howard 1977).
-/// A legal relation obeys each given dependency. Reflexivity: `y` within `x` gives `x -> y`, and `x ->>
-/// y`. Augmentation: `x -> y` gives `xz -> yz`, and `x ->> y` gives `xw ->> yz` for `z` within `w`.
-/// Transitivity: `x -> y` and `y -> z` give `x -> z`, and `x ->> y` and `y ->> z` give `x ->> z - y`.
-/// Complementation: `x ->> y` gives `x ->>` the rest of the scheme. Replication: `x -> y` gives `x ->>
-/// y`. Coalescence: `x ->> y` and `z -> w` give `x -> w` for `w` within `y` and `z` apart from `y`.
+/// A legal relation obeys each given dependency. Reflexivity: `y` within `x` gives `x -> y`, and
+/// `x ->> y`. Augmentation: `x -> y` gives `xz -> yz`, and `x ->> y` gives `xw ->> yz` for `z` within
+/// `w`. Transitivity: `x -> y` and `y -> z` give `x -> z`, and `x ->> y` and `y ->> z` give
+/// `x ->> z - y`. Complementation: `x ->> y` gives `x ->>` the rest of the scheme. Replication:
+/// `x -> y` gives `x ->> y`. Coalescence: `x ->> y` and `z -> w` give `x -> w` for `w` within `y` and
+/// `z` apart from `y`.
 pub fn rules_are_sound()
     ensures given { (n : ℕ) (ds : List Dependency) (r : Relation) (d : Dependency) → IsLegal n ds r
         → Contains ds d → Obeys n d r }
@@ -36,7 +37,8 @@ pub fn rules_are_sound()
     ensures multivalued_augmentation { (scheme x y w z : Attributes) (r : Relation) → IsSubset z w → IsSubset w scheme
         → ObeysMvd scheme x y r
         → ObeysMvd scheme (union x w) (union y z) r }
-    ensures multivalued_transitivity { (scheme x y z : Attributes) (r : Relation) → IsSubset x scheme → IsSubset z scheme
+    ensures multivalued_transitivity { (scheme x y z : Attributes) (r : Relation)
+        → IsSubset x scheme → IsSubset z scheme
         → ObeysMvd scheme x y r → ObeysMvd scheme y z r
         → ObeysMvd scheme x (difference z y) r }
     ensures replication { (scheme x y : Attributes) (r : Relation) → ObeysFd x y r → ObeysMvd scheme x y r }
@@ -70,8 +72,8 @@ pub fn superkeys_grow()
 {}
 
 /// The two tuples of a set agree exactly on it. Two tuples that agree exactly on `a` obey `x -> y`
-/// exactly where `x` within `a` gives `y` within `a` (Sagiv, Delobel, Parker and Fagin 1981), and `x
-/// ->> y` exactly where it gives `y` or the rest within `a`.
+/// exactly where `x` within `a` gives `y` within `a` (Sagiv, Delobel, Parker and Fagin 1981), and
+/// `x ->> y` exactly where it gives `y` or the rest within `a`.
 pub fn two_tuples_obey()
     ensures agree { (n : ℕ) (a : Attributes) → AgreeExactly n a (all_zeros n) (zeros_on n a) }
     ensures functional { (n : ℕ) (a x y : Attributes) (t u : Tuple) → AgreeExactly n a t u
