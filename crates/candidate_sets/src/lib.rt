@@ -22,5 +22,8 @@ mod refusal;
 
 pub use adding::{add_evidence, first_candidates};
 pub use asking::is_any_within;
-pub use laws::{candidates_are_minimal_dependencies, candidates_are_within_the_limit, evidence_steps_to_candidates};
+pub use laws::{
+    candidates_are_minimal_dependencies, candidates_are_within_the_limit,
+    evidence_steps_to_candidates,
+};
 pub use refusal::{MOST_CANDIDATES, TooManyCandidates};

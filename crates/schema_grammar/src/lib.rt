@@ -18,7 +18,10 @@ mod refusal_texts;
 mod symbol;
 
 pub use format::{FULL_VERSION, Format, MOST_DEPENDENCY_LINES, TYPED_VERSION};
-pub use laws::{declared_names, first_diagnostics_refuse, goals_are_read_or_refused, printed_schema_means, schemas_are_read_or_refused, sets_are_read_or_refused};
+pub use laws::{
+    declared_names, first_diagnostics_refuse, goals_are_read_or_refused, printed_schema_means,
+    schemas_are_read_or_refused, sets_are_read_or_refused,
+};
 pub use line_kind::{LineKind, Purpose};
 pub use refusal::{SchemaRefusal, SchemaRefusalKind, Span, What};
 pub use symbol::{Sign, Symbol};
