@@ -1,5 +1,5 @@
 -- What stands after the word `table`: read where nothing is wrong with it, or refused by the first diagnostic.
-use Rattle.std.proofs.Common.{◌≡◌, ◌<◌, ◌≤◌, ◌+◌, ℕ, Bool, true, false, cond, List, [], ◌∷◌, length, Option, Some, None, Result, Ok, Err, refl, sym, ap, ◌∙◌, ◌⊎◌, inl, inr, ⊎_elim, arith}
+use Rattle.std.proofs.Common.{◌≡◌, ◌<◌, ◌≤◌, ◌+◌, ℕ, Bool, true, false, cond, List, [], ◌∷◌, length, Option, Some, None, Result, Ok, Err, refl, sym, ap, ◌∙◌, inl, inr, ⊎_elim, arith}
 use Rattle.std.specs.Prelude.{All}
 use Rattle.std.specs.List.{list_any}
 use Rattle.std.proofs.lemmas.Bool.{true≢false}
@@ -23,7 +23,6 @@ use Rattle.table_names.specs.TableNames.{is_given}
 use Rattle.plan_printer.specs.NamedPlans.{PlannedTable}
 use Rattle.plan_grammar.specs.declared.refusal.PlanRefusal.{PlanRefusal}
 use Rattle.plan_grammar.specs.declared.refusal.PlanRefusal.TheVariants as plan
-use Rattle.plan_grammar.specs.Refusals.{plan_diagnostic_kind}
 use Rattle.plan_grammar.specs.Meanings.{is_kept_word}
 use Rattle.plan_grammar.specs.Diagnostics.{ColonDiagnostic, IsFirstOf, LabelDiagnostic, NamedDiagnostic, SpansPosition, is_label, wanted_name, wanted_named}
 use Rattle.plan_grammar.specs.Reading.{name_of_token, of_text, read_colon, read_named, read_words, table_of}

@@ -1,7 +1,6 @@
 -- What tables a plan text means: for `read_plan` and the commands that read plans (`desk_inputs/Plans`).
 use Rattle.std.specs.Prelude.{◌≡◌, ◌<◌, ◌≤◌, ◌⊎◌, ℕ, Bool, ◌||◌, true, false, List, [], ◌∷◌, ◌++◌, length, Option, Some, None, All}
 use Rattle.std.specs.List.{list_any}
-use Rattle.attr_sets.specs.Attributes.{Attributes}
 use Rattle.dep_model.specs.Projections.{Covers}
 use Rattle.schema_model.specs.declared.naming.Naming.{Naming}
 use Rattle.lexer.specs.declared.token.TokenKind.TheVariants as token
