@@ -8,7 +8,7 @@ use Rattle.removal_laws.proofs.LargestLemmas.{least}
 use Rattle.row_measures.proofs.laws.measures_are_least.Goals as goal
 
 pub returns : goal.returns
-returns c = record {
+returns _ = record {
   functional = measured_least;
   multivalued = λ n x y r m x_in y_in over is.
       let found = missing_tuples n x y r is.0 over x_in y_in in
