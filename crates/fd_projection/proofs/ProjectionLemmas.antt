@@ -1,6 +1,6 @@
 -- What is left of the minimal dependencies inside a set says of it what the list says, and nothing of it
 -- can be spared.
-use Rattle.std.proofs.Common.{◌≡◌, ◌≤◌, ◌↔◌, ℕ, true, false, List, [], ◌∷◌, ◌++◌, sym, subst, ◌∙◌, inl, inr, ⊎_elim, arith}
+use Rattle.std.proofs.Common.{◌≡◌, ◌≤◌, ℕ, true, false, List, [], sym, subst, ◌∙◌, inl, inr, arith}
 use Rattle.std.proofs.lemmas.Bool.{cases_Bool, ltb-true}
 use Rattle.std.proofs.lemmas.Bool.Decides.{nat_tests}
 use Rattle.std.proofs.lemmas.List.Elements.{All-nil, All-contains, All-weaker}
@@ -13,8 +13,7 @@ use Rattle.dep_model.specs.Deps.{dependencies_of, IsDepWithin}
 use Rattle.dep_model.specs.Implication.{IsLegal, Implies}
 use Rattle.dep_model.specs.Keys.{InClosure}
 use Rattle.dep_model.proofs.RuleLemmas.{fd_weaker_obeyed}
-use Rattle.min_cover.specs.Covers.{IsThinned}
-use Rattle.min_cover.proofs.CoverLemmas.{thinned_legal-to, thinned_legal-from, thinned_all, thinned_left}
+use Rattle.min_cover.proofs.CoverLemmas.{thinned_legal-to, thinned_all, thinned_left}
 use Rattle.fd_projection.specs.Projections.{IsMinimalFd, IsProjection, IsCoverWithin}
 use Rattle.fd_projection.proofs.MinimalLemmas.{least_to, HasMinimalPart, minimal_part}
 
