@@ -33,8 +33,13 @@ returns-in-Some-Some c =
         alone_fails (PassesForm s form) (universe_of s),
         inr (
           are.testable,
-          (x, y, verdict.named, subst (λ (u : Attributes). Says No (violated_text (printed_names_of s) form u x y) response) whole
-          (c.violation_exit.ensures.says response is)),
+          (
+            x,
+            y,
+            verdict.named,
+            subst (λ (u : Attributes). Says No (violated_text (printed_names_of s) form u x y) response) whole
+                (c.violation_exit.ensures.says response is),
+          ),
         ),
       );
     }
