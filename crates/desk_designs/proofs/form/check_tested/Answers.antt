@@ -1,32 +1,30 @@
 -- What is left to prove of `check_tested`: its clause, where the universe is not in the form, is in it, or is too wide.
-use Rattle.std.proofs.Common.{◌≡◌, ℕ, List, [], ◌∷◌, refl, ap, subst, ◌∙◌, inl, inr}
+use Rattle.std.proofs.Common.{◌≡◌, [], refl, ap, subst, ◌∙◌, inl, inr}
 use Rattle.std.proofs.lemmas.List.Elements.{All-cons, All-nil}
 use Rattle.std.specs.Prelude.{Option}
 use Rattle.attr_sets.specs.Attributes.{Attributes, below}
 use Rattle.attr_sets.specs.Sets.{attributes}
-use Rattle.normal_forms.specs.declared.forms.Breach.{Breach}
-use Rattle.schema_model.specs.Schemas.{theory_of, universe_of, width_of}
+use Rattle.schema_model.specs.Schemas.{universe_of}
 use Rattle.schema_printer.specs.Spelling.{printed_names_of}
-use Rattle.which_form.specs.Verdicts.{IsVerdict}
 use Rattle.which_form.specs.declared.forms.SchemeForms.{SchemeForms}
 use Rattle.desk_responses.specs.Lines.{too_wide_text}
 use Rattle.desk_responses.specs.ResponseValues.{Says}
+use Rattle.desk_responses.specs.Responses.{response_value}
 use Rattle.desk_responses.specs.declared.status.Status.TheVariants.{No, Refused}
 use Rattle.desk_designs.specs.NormalForms.{PassesForm, violated_text}
-use Rattle.desk_designs.specs.TestedSchemes.{AreFormsOf, AreFoundForms}
+use Rattle.desk_designs.specs.TestedSchemes.{AreFoundForms}
 use Rattle.desk_designs.proofs.TestedLemmas.{alone_fails}
 use Rattle.desk_designs.proofs.form.check_tested.Goals as goal
 
-pub returns-in-Some-Some : goal.returns-in-Some-Some
-returns-in-Some-Some c =
+pub returns-in-Some-breach_of : goal.returns-in-Some-breach_of
+returns-in-Some-breach_of c =
     let s = c.args.schema.now in
     let form = c.args.form in
-    let x = attributes c.in-Some-Some.breach.lhs in
-    let y = attributes c.in-Some-Some.breach.rhs in
+    let x = attributes c.in-Some-breach_of.breach.lhs in
+    let y = attributes c.in-Some-breach_of.breach.rhs in
     let whole : attributes c.full-scheme.result ≡ universe_of s = c.full-scheme.ensures.members ∙ ap below c.width.ensures.count in
     let are = subst (λ (found : Option SchemeForms). AreFoundForms s found) c.in-Some.is c.requires.found in
-    let verdict = subst (λ (found : Option Breach). IsVerdict (width_of s) (theory_of s) (universe_of s) form found) c.in-Some-Some.field-0-is
-    (c.breach_of.ensures.verdict s (universe_of s) are) in
+    let verdict = c.in-Some-breach_of.ensures.verdict s (universe_of s) are in
     record {
       response = λ response is. inr (
         universe_of s,
@@ -37,24 +35,23 @@ returns-in-Some-Some c =
             x,
             y,
             verdict.named,
-            subst (λ (u : Attributes). Says No (violated_text (printed_names_of s) form u x y) response) whole
+            subst (λ (u : Attributes). Says No (violated_text (printed_names_of s) form u x y) (response_value response)) whole
                 (c.violation_exit.ensures.says response is),
           ),
         ),
       );
     }
 
-pub returns-in-Some-None : goal.returns-in-Some-None
-returns-in-Some-None c =
+pub returns-in_ok-in_form_response-in-None-breach_of : goal.returns-in_ok-in_form_response-in-None-breach_of
+returns-in_ok-in_form_response-in-None-breach_of c =
     let s = c.args.schema.now in
     let form = c.args.form in
     let are = subst (λ (found : Option SchemeForms). AreFoundForms s found) c.in-Some.is c.requires.found in
-    let verdict = subst (λ (found : Option Breach). IsVerdict (width_of s) (theory_of s) (universe_of s) form found) c.in-Some-None.field-0-is
-    (c.breach_of.ensures.verdict s (universe_of s) are) in
+    let verdict = c.in-None-breach_of.ensures.verdict s (universe_of s) are in
     record {
       response = inl (
         All-cons (PassesForm s form) (universe_of s) [] (record { narrow = are.testable; in_form = verdict.none.0 refl }) (All-nil (PassesForm s form)),
-        c.in_ok-in_form_response.ensures.says,
+        c.in_ok-in_form_response-in-None-breach_of.ensures.says,
       );
     }
 
@@ -67,6 +64,6 @@ returns-in-None c =
       response = λ response is. inr (
         universe_of s,
         alone_fails (PassesForm s c.args.form) (universe_of s),
-        inl (wide, subst (λ (x : Attributes). Says Refused (too_wide_text (printed_names_of s) x) response) whole (c.too_wide_exit.ensures.says response is)),
+        inl (wide, subst (λ (x : Attributes). Says Refused (too_wide_text (printed_names_of s) x) (response_value response)) whole (c.too_wide_exit.ensures.says response is)),
       );
     }

@@ -26,12 +26,12 @@ listed-requires c =
           (subst (λ (x : Attributes). AreFormsOf s x c.in-Some.forms) (sym whole) are) (All-nil (IsTestedScheme s));
     }
 
-pub returns-in-Some : goal.returns-in-Some
-returns-in-Some c =
+pub returns-in_ok-listed-in-Some : goal.returns-in_ok-listed-in-Some
+returns-in_ok-listed-in-Some c =
     let s = c.args.schema.now in
     let whole : attributes c.full-scheme.result ≡ universe_of s = c.full-scheme.ensures.members ∙ ap below c.width.ensures.count in
     record {
-      response = subst (λ (x : Attributes). ListsFormsOfPlan s (x ∷ []) (response_value c.in_ok-listed.field-0)) whole c.in_ok-listed.ensures.lists;
+      response = subst (λ (x : Attributes). ListsFormsOfPlan s (x ∷ []) (response_value c.in_ok-listed-in-Some.field-0)) whole c.in_ok-listed-in-Some.ensures.lists;
     }
 
 pub returns-in-None : goal.returns-in-None
@@ -44,6 +44,6 @@ returns-in-None c =
         universe_of s,
         alone_fails (IsTestable s) (universe_of s),
         wide,
-        subst (λ (x : Attributes). Says Refused (too_wide_text (printed_names_of s) x) response) whole (c.too_wide_exit.ensures.says response is),
+        subst (λ (x : Attributes). Says Refused (too_wide_text (printed_names_of s) x) (response_value response)) whole (c.too_wide_exit.ensures.says response is),
       );
     }
