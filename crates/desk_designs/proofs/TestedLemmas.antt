@@ -109,3 +109,7 @@ pub first_wide : (s : Schema) (found : List TestedScheme) (schemes : List AttrSe
 first_wide s found schemes i d short all list =
     first_failing (IsTestable s) schemes i d short (all_of_map (IsTestable s) (take i schemes)
     (subst (λ (l : List Attributes). All (IsTestable s) l) list (tested_testable s found all)))
+
+-- the only scheme of a plan is the first that fails
+pub alone_fails : (P : Attributes → Type 0) (scheme : Attributes) → IsFirstFailing P (scheme ∷ []) scheme
+alone_fails P scheme = record { earlier = []; later = []; list = refl; passed = All-nil P }

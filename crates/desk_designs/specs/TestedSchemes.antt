@@ -1,12 +1,13 @@
 -- Schemes with what was found of them, and their texts: for the functions below `form_of_all` and
--- `forms_of_plan`. `Desk` does not cite it.
+-- `forms_of_plan`, and those of a page. `Desk` does not cite it.
 use Rattle.std.specs.Prelude.{ℕ, List, [], ◌++◌, Option, Some, None, map}
 use Rattle.attr_sets.specs.Attributes.{Attributes}
 use Rattle.attr_sets.specs.declared.set.AttrSet.{AttrSet}
 use Rattle.attr_sets.specs.Sets.{attributes}
-use Rattle.schema_model.specs.Schemas.{width_of, theory_of}
+use Rattle.schema_model.specs.Schemas.{width_of, theory_of, universe_of}
 use Rattle.schema_model.specs.Schemas.{Schema}
 use Rattle.dep_model.specs.declared.form.Form.TheVariants.{Third, Bcnf, Fourth}
+use Rattle.fd_closure.specs.LeftSides.{IsWideScheme}
 use Rattle.normal_forms.specs.declared.forms.Breach.{Breach}
 use Rattle.which_form.specs.declared.forms.TestedForm.{TestedForm}
 use Rattle.which_form.specs.declared.forms.TestedForm.TheVariants.{Second, Higher}
@@ -23,6 +24,11 @@ tested_scheme scheme forms = record { scheme = scheme; forms = forms }
 pub record AreFormsOf (schema : Schema) (scheme : Attributes) (forms : SchemeForms) : Type 0 where
   pub testable : IsTestable schema scheme
   pub verdicts : AreVerdicts (width_of schema) (theory_of schema) scheme forms
+
+-- what was found of the table of all attributes: its forms, or nothing where it is too wide to be tested
+abbrev pub AreFoundForms : Schema → Option SchemeForms → Type 0
+AreFoundForms schema (Some forms) = AreFormsOf schema (universe_of schema) forms
+AreFoundForms schema None = IsWideScheme (theory_of schema) (universe_of schema)
 
 -- what is kept with a scheme are its forms
 abbrev pub IsTestedScheme : Schema → TestedScheme → Type 0

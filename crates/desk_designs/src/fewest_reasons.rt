@@ -95,14 +95,7 @@ fn put_plain(
         (dependencies_of steps.now.cover.items) steps.now.schemes.items)) }
 {
     add(text, b"# synthesize has fewer\n")?;
-    let reasons = print_reasons(
-        alloc,
-        schema,
-        &steps.cover,
-        &steps.lefts,
-        &steps.schemes,
-        kept,
-    )?;
+    let reasons = print_reasons(alloc, schema, steps, kept)?;
     add(text, &reasons)?;
     Ok(())
 }

@@ -1,4 +1,4 @@
-ghost use Rattle.std.specs.Prelude.{◌≡◌, ◌<◌, ◌≤◌, ◌++◌, ℕ, codes, length, slice_index_or, All, IsTrue, IfOk, IfErr};
+ghost use Rattle.std.specs.Prelude.{◌≡◌, ◌<◌, ◌≤◌, ◌∷◌, ◌++◌, [], ℕ, codes, length, slice_index_or, All, IsTrue, IfOk, IfErr};
 ghost use Rattle.attr_sets.specs.Attributes.{IsSubset};
 ghost use Rattle.attr_sets.specs.Sets.{attributes};
 ghost use Rattle.dep_model.specs.Deps.{dependency_of};
@@ -7,11 +7,13 @@ ghost use Rattle.schema_model.specs.Schemas.{universe_of, theory_in};
 ghost use Rattle.plans.specs.Plans.{IsPlanOver, plan_of};
 ghost use Rattle.desk_responses.specs.ResponseValues.{Says};
 ghost use Rattle.desk_designs.specs.NormalForms.{EndsForm, JudgesForm, PassesForm, form_word, in_form_text, tested_violation_of, tested_word, violated_text, violation_of};
+ghost use Rattle.desk_designs.specs.TestedSchemes.{AreFoundForms};
 ghost use Rattle.schema_printer.specs.Printing.{dependency_text, set_text};
 ghost use Rattle.schema_printer.specs.Spelling.{printed_names_of};
 ghost use Rattle.desk_responses.specs.Responses.{response_value, RespondsAs, ExitsAs};
 ghost use Rattle.desk_texts.specs.Texts.{line};
 
+use crate::forms::breach_of;
 use attr_sets::AttrSet;
 use byte_texts::add;
 use dep_model::{Dep, Form, OutOfMemory};
@@ -22,7 +24,7 @@ use plans::Plan;
 use schema_model::Schema;
 use schema_printer::{add_dep, add_set};
 use std::alloc::Global;
-use which_form::{TestedForm, tested_violation};
+use which_form::{SchemeForms, TestedForm, tested_violation};
 
 /// Whether each scheme of a plan is in a normal form.
 pub fn check_form(
@@ -35,6 +37,26 @@ pub fn check_form(
     ensures response { RespondsAs (JudgesForm schema.now form (plan_of plan.now)) result }
 {
     judge_schemes(alloc, schema, form, plan.schemes())
+}
+
+/// Whether the table of all attributes is in a normal form, where it is tested already.
+pub fn check_tested(
+    alloc: Global,
+    schema: &Schema,
+    form: TestedForm,
+    found: Option<SchemeForms>,
+) -> Result<Response, EarlyExit>
+    requires found { AreFoundForms schema.now found }
+    ensures response { RespondsAs (JudgesForm schema.now form (universe_of schema.now ∷ [])) result }
+{
+    let scheme = AttrSet::full(schema.width());
+    match found {
+        Some(forms) => match breach_of(forms, form) {
+            Some(breach) => Err(violation_exit(alloc, schema, form, scheme, breach)),
+            None => Ok(in_form_response(alloc, form)?),
+        },
+        None => Err(too_wide_exit(alloc, schema, scheme)),
+    }
 }
 
 // Whether each of these schemes is in a normal form. The first that is not, or is too wide, decides. Of

@@ -1,8 +1,8 @@
 ghost use Rattle.std.specs.Prelude.{◌≡◌, ◌∷◌, ◌++◌, [], All, IfOk, IfErr, IfSome, OnOk};
-ghost use Rattle.attr_sets.specs.Attributes.{IsSubset};
+ghost use Rattle.attr_sets.specs.Attributes.{Attributes, IsSubset};
 ghost use Rattle.attr_sets.specs.Sets.{attributes};
 ghost use Rattle.dep_model.specs.Plans.{schemes_of};
-ghost use Rattle.schema_model.specs.Schemas.{universe_of, theory_of, theory_in};
+ghost use Rattle.schema_model.specs.Schemas.{universe_of, theory_of, theory_in, width_of};
 ghost use Rattle.schema_model.specs.Schemas.{Schema as Declared};
 ghost use Rattle.plans.specs.Plans.{IsPlanOver, plan_of};
 ghost use Rattle.schema_printer.specs.Spelling.{printed_names_of};
@@ -11,7 +11,8 @@ ghost use Rattle.desk_responses.specs.ResponseValues.{ResponseValue, Says};
 ghost use Rattle.desk_responses.specs.Lines.{too_wide_text};
 ghost use Rattle.fd_closure.specs.LeftSides.{IsWideScheme};
 ghost use Rattle.desk_designs.specs.FormsOfSchemes.{ArePlanTexts, IsSchemeText, ListsFormOfAll, ListsFormsOfPlan, RefusesWide, form_line, last_word};
-ghost use Rattle.desk_designs.specs.TestedSchemes.{AreFormsOf, IsTestedScheme, breach_text, breaches_text, schemes_tested, tested_scheme};
+ghost use Rattle.which_form.specs.Verdicts.{IsVerdict};
+ghost use Rattle.desk_designs.specs.TestedSchemes.{AreFormsOf, AreFoundForms, IsTestedScheme, breach_text, breaches_text, schemes_tested, tested_scheme};
 
 use crate::form::{tested_dependency, word_of_tested};
 use attr_sets::AttrSet;
@@ -29,8 +30,48 @@ use which_form::{SchemeForms, TestedForm, last_form, scheme_forms};
 pub fn form_of_all(alloc: Global, schema: &Schema) -> Result<Response, EarlyExit>
     ensures response { RespondsAs (ListsFormOfAll schema.now) result }
 {
-    let schemes = [AttrSet::full(schema.width())];
-    list_forms(alloc, schema, &schemes)
+    form_of_tested(alloc, schema, forms_of_all(schema))
+}
+
+/// What violates each of the forms on the table of all attributes; nothing where it is too wide to be tested.
+pub fn forms_of_all(schema: &Schema) -> Option<SchemeForms>
+    ensures found { AreFoundForms schema.now result }
+{
+    match scheme_forms(&schema.theory(), AttrSet::full(schema.width())) {
+        Ok(forms) => Some(forms),
+        Err(_) => None,
+    }
+}
+
+/// Which form the table of all attributes is in, where it is tested already.
+pub fn form_of_tested(
+    alloc: Global,
+    schema: &Schema,
+    found: Option<SchemeForms>,
+) -> Result<Response, EarlyExit>
+    requires found { AreFoundForms schema.now found }
+    ensures response { RespondsAs (ListsFormOfAll schema.now) result }
+{
+    let scheme = AttrSet::full(schema.width());
+    match found {
+        Some(forms) => Ok(listed(alloc, schema, &[TestedScheme { scheme, forms }])?),
+        None => Err(too_wide_exit(alloc, schema, scheme)),
+    }
+}
+
+/// What violates one of the forms.
+pub fn breach_of(forms: SchemeForms, form: TestedForm) -> Option<Breach>
+    ensures verdict { (s : Declared) (scheme : Attributes) → AreFormsOf s scheme forms
+        → IsVerdict (width_of s) (theory_of s) scheme form result }
+{
+    match form {
+        TestedForm::Second => forms.second,
+        TestedForm::Higher { form: higher } => match higher {
+            Form::Third => forms.third,
+            Form::Bcnf => forms.bcnf,
+            Form::Fourth => forms.fourth,
+        },
+    }
 }
 
 /// Which form each scheme of a plan is in.

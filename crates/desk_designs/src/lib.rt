@@ -30,8 +30,10 @@ pub use drawings::{draw_form, draw_plan};
 pub use explained::{ExplainedPlan, explained_plan, print_explained};
 pub use fewest::synthesize_fewest;
 pub use fewest_reasons::explain_fewest;
-pub use form::{check_form, tested_dependency, violation_dependency, word_of, word_of_tested};
-pub use forms::{form_of_all, forms_of_plan};
+pub use form::{
+    check_form, check_tested, tested_dependency, violation_dependency, word_of, word_of_tested,
+};
+pub use forms::{breach_of, form_of_all, form_of_tested, forms_of_all, forms_of_plan};
 pub use join::{check_join, test_loss};
 pub use keeping::check_keeps;
 pub use missing::{required_design, test_missing};

@@ -10,11 +10,10 @@ ghost use Rattle.plans.specs.Plans.{IsPlanOver, scheme_sets};
 ghost use Rattle.schema_model.specs.Schemas.{nullable_of, width_of, theory_of, theory_in, universe_of};
 ghost use Rattle.schema_printer.specs.Spelling.{printed_names_of};
 ghost use Rattle.desk_responses.specs.Responses.{response_value, RespondsAs};
-ghost use Rattle.desk_designs.specs.LeftOut.{left_out_text};
 ghost use Rattle.synthesis_3nf.specs.GroupedPlans.{AreSynthesisSteps};
 ghost use Rattle.synthesis_3nf.specs.Groups.{left_sides_after};
 ghost use Rattle.desk_designs.specs.Synthesis.{IsThirdFormPlan};
-ghost use Rattle.desk_designs.specs.SynthesisReasons.{AreSynthesisReasons, ExplainsSynthesis, cover_text, group_text, key_text, member_text};
+ghost use Rattle.desk_designs.specs.SynthesisReasons.{AreSynthesisReasons, ExplainsSynthesis, cover_text, group_text, key_text, member_text, synthesis_text};
 
 use crate::explained::{ExplainedPlan, explained_response};
 use crate::left_out::put_left_out;
@@ -82,40 +81,29 @@ fn synthesis_with_reasons(
     ensures reasons { IfOk result (λ found. AreSynthesisReasons schema.now found.reasons.items) }
 {
     let plan = plan_of_steps(alloc, &schema.theory(), steps)?;
-    let reasons = print_reasons(
-        alloc,
-        schema,
-        &steps.cover,
-        &steps.lefts,
-        &steps.schemes,
-        plan.schemes(),
-    )?;
+    let reasons = print_reasons(alloc, schema, steps, plan.schemes())?;
     Ok(ExplainedPlan { plan, reasons })
 }
 
 // How the plan comes about.
+#[tactic(auto, using(crate::proofs::SynthesisTexts::text_is))]
 pub fn print_reasons(
     alloc: Global,
     schema: &Schema,
-    cover: &[Dep],
-    lefts: &[AttrSet],
-    all: &[AttrSet],
+    steps: &SynthesisSteps,
     kept: &[AttrSet],
 ) -> Result<Vec<u8>, OutOfMemory>
-    requires kept { kept.now ≡ without_contained all.now }
-    ensures text { IfOk result (λ text. text.items
-        ≡ cover_text (printed_names_of schema.now) (dependencies_of cover.now)
-        ++ flat_map (group_text (printed_names_of schema.now) (dependencies_of cover.now))
-        (schemes_of lefts.now)
-        ++ left_out_text (printed_names_of schema.now) all.now
-        ++ flat_map (key_text (printed_names_of schema.now)) (drop (length lefts.now)
-        (schemes_of all.now))) }
+    requires kept { kept.now ≡ without_contained steps.now.schemes.items }
+    requires lefts { schemes_of steps.now.lefts.items
+        ≡ left_sides_after [] (dependencies_of steps.now.cover.items) }
+    ensures text { IfOk result (λ text. text.items ≡ synthesis_text (printed_names_of schema.now)
+        (dependencies_of steps.now.cover.items) steps.now.schemes.items) }
 {
     let mut text = Vec::new(alloc);
-    put_cover(&mut text, schema, cover)?;
-    put_groups(&mut text, schema, cover, lefts)?;
-    put_left_out(&mut text, schema, all, kept)?;
-    put_added(&mut text, schema, all, lefts.len())?;
+    put_cover(&mut text, schema, &steps.cover)?;
+    put_groups(&mut text, schema, &steps.cover, &steps.lefts)?;
+    put_left_out(&mut text, schema, &steps.schemes, kept)?;
+    put_added(&mut text, schema, &steps.schemes, steps.lefts.len())?;
     Ok(text)
 }
 

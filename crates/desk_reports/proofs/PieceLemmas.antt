@@ -1,10 +1,5 @@
 -- What an answer prints, and pieces that are added one after the other.
-use Rattle.std.proofs.Common.{◌≡◌, ◌<◌, ◌+◌, ℕ, List, [], ◌∷◌, ◌++◌, Result, Ok, Err, refl, sym, ap, ◌∙◌, add-one, append-nil, append_assoc, true≢false, codes}
-use Rattle.std.proofs.lemmas.List.Elements.{All-cons, All-nil}
-use Rattle.std.proofs.lemmas.Bool.{lt-ltb}
-use Rattle.attr_sets.specs.Attributes.{Attributes, IsEmpty, IsSubset, below}
-use Rattle.dep_model.specs.Plans.{IsPlan}
-use Rattle.dep_model.proofs.SchemeLemmas.{whole_lossless}
+use Rattle.std.proofs.Common.{◌≡◌, ◌+◌, ℕ, List, [], ◌++◌, Result, Ok, Err, refl, sym, ap, ◌∙◌, add-one, append-nil, append_assoc, codes}
 use Rattle.html_pages.specs.Pages.{folded_text, heading_text, open_text}
 use Rattle.desk_responses.specs.ResponseValues.{Allowed}
 use Rattle.desk_responses.specs.Responses.{RespondsAs, response_value}
@@ -110,13 +105,3 @@ pub each_more : (k : ℕ) (piece : ℕ → Shown) (text middle more : List ℕ) 
     → Adds (piece k) middle more → Adds (EachBelow (k + 1) piece) text more
 each_more k piece text middle more so_far adds =
     rw add-one (adds_both (EachBelow k piece) (piece k) text middle more so_far adds)
-
--- ---- the universe as the only scheme of a plan
-pub whole_is_plan : (n : ℕ) → 0 < n → IsPlan n (below n ∷ [])
-whole_is_plan n some = record {
-  within = All-cons (λ (scheme : Attributes). IsSubset scheme (below n)) (below n) [] (λ k member. member)
-      (All-nil (λ (scheme : Attributes). IsSubset scheme (below n)));
-  not_empty = All-cons (λ (scheme : Attributes). IsEmpty scheme → ⊥) (below n) []
-      (λ empty. true≢false (sym (lt-ltb 0 n some) ∙ empty 0)) (All-nil (λ (scheme : Attributes). IsEmpty scheme → ⊥));
-  covers = (whole_lossless n []).covers;
-}

@@ -5,10 +5,10 @@ ghost use Rattle.attr_sets.specs.Sets.{attributes};
 ghost use Rattle.attr_sets.specs.Attributes.{IsSubset};
 ghost use Rattle.dep_model.specs.Deps.{dependency_of, IsDepWithin};
 ghost use Rattle.dep_model.specs.Dependencies.{fd};
-ghost use Rattle.schema_model.specs.Schemas.{universe_of, theory_in};
+ghost use Rattle.schema_model.specs.Schemas.{universe_of};
 ghost use Rattle.html_pages.specs.Pages.{title_with_words};
-ghost use Rattle.plans.specs.Plans.{IsPlanOver, plan_of};
 ghost use Rattle.desk_designs.specs.NormalForms.{JudgesForm, tested_violation_of};
+ghost use Rattle.desk_designs.specs.TestedSchemes.{AreFoundForms};
 ghost use Rattle.desk_reports.specs.Answers.{Adds};
 ghost use Rattle.desk_reports.specs.Forms.{FormsSection, ShowsEachForm, ShowsForm, ShowsLeftSide, ShowsViolation, ShowsWhichForm, ShowsWhy, form_title, functional_title, goal_text, goal_words, left_side_title, tested_title};
 ghost use Rattle.desk_reports.specs.Pieces.{Opens, Then};
@@ -19,15 +19,14 @@ use attr_sets::AttrSet;
 use byte_texts::add;
 use dep_basis::is_implied;
 use dep_model::{Dep, Form, OutOfMemory};
-use desk_designs::{check_form, form_of_all, tested_dependency};
+use desk_designs::{breach_of, check_tested, form_of_tested, forms_of_all, tested_dependency};
 use desk_implication::implies;
 use html_pages::{add_heading, add_shell_word, titled};
 use normal_forms::Breach;
-use plans::Plan;
 use schema_model::Schema;
 use schema_printer::add_dep;
 use std::alloc::Global;
-use which_form::{TestedForm, tested_violation};
+use which_form::{SchemeForms, TestedForm};
 
 /// Adds the section on the normal forms of the universe of a schema.
 pub fn put_forms_section(
@@ -39,8 +38,9 @@ pub fn put_forms_section(
     ensures added { OnOk result (Adds (FormsSection file.now schema.now) text.old.items text.new.items) }
 {
     add_heading(text, b"Normal forms")?;
-    put_which_form(alloc, text, schema, file)?;
-    put_each_form(alloc, text, schema, file)?;
+    let found = forms_of_all(schema);
+    put_which_form(alloc, text, schema, file, found)?;
+    put_each_form(alloc, text, schema, file, found)?;
     Ok(())
 }
 
@@ -50,11 +50,13 @@ fn put_which_form(
     text: &mut Vec<u8>,
     schema: &Schema,
     file: &Argument,
+    found: Option<SchemeForms>,
 ) -> Result<(), OutOfMemory>
+    requires found { AreFoundForms schema.now found }
     ensures added { OnOk result (Adds (ShowsWhichForm file.now schema.now) text.old.items text.new.items) }
 {
     let title = title_of(alloc, b"Which form", b"form ", file)?;
-    put_opened(text, &title, form_of_all(alloc, schema))?;
+    put_opened(text, &title, form_of_tested(alloc, schema, found))?;
     Ok(())
 }
 
@@ -64,31 +66,18 @@ fn put_each_form(
     text: &mut Vec<u8>,
     schema: &Schema,
     file: &Argument,
+    found: Option<SchemeForms>,
 ) -> Result<(), OutOfMemory>
+    requires found { AreFoundForms schema.now found }
     ensures added { OnOk result (Adds (ShowsEachForm file.now schema.now) text.old.items text.new.items) }
 {
-    put_form(alloc, text, schema, file, TestedForm::Second)?;
-    put_form(
-        alloc,
-        text,
-        schema,
-        file,
-        TestedForm::Higher { form: Form::Third },
-    )?;
-    put_form(
-        alloc,
-        text,
-        schema,
-        file,
-        TestedForm::Higher { form: Form::Bcnf },
-    )?;
-    put_form(
-        alloc,
-        text,
-        schema,
-        file,
-        TestedForm::Higher { form: Form::Fourth },
-    )?;
+    let third = TestedForm::Higher { form: Form::Third };
+    let bcnf = TestedForm::Higher { form: Form::Bcnf };
+    let fourth = TestedForm::Higher { form: Form::Fourth };
+    put_form(alloc, text, schema, file, TestedForm::Second, found)?;
+    put_form(alloc, text, schema, file, third, found)?;
+    put_form(alloc, text, schema, file, bcnf, found)?;
+    put_form(alloc, text, schema, file, fourth, found)?;
     Ok(())
 }
 
@@ -99,11 +88,13 @@ fn put_form(
     schema: &Schema,
     file: &Argument,
     form: TestedForm,
+    found: Option<SchemeForms>,
 ) -> Result<(), OutOfMemory>
+    requires found { AreFoundForms schema.now found }
     ensures added { OnOk result (Adds (ShowsForm file.now schema.now form) text.old.items text.new.items) }
 {
-    put_judged(alloc, text, schema, form)?;
-    put_violation(alloc, text, schema, file, form)?;
+    put_judged(alloc, text, schema, form, found)?;
+    put_violation(alloc, text, schema, file, form, found)?;
     Ok(())
 }
 
@@ -113,25 +104,16 @@ fn put_judged(
     text: &mut Vec<u8>,
     schema: &Schema,
     form: TestedForm,
+    found: Option<SchemeForms>,
 ) -> Result<(), OutOfMemory>
+    requires found { AreFoundForms schema.now found }
     ensures added { OnOk result
         (Adds (Opens (tested_title form) (JudgesForm schema.now form (universe_of schema.now ∷ [])))
         text.old.items text.new.items) }
 {
-    let plan = plan_of_one(alloc, schema)?;
-    let judged = check_form(alloc, schema, form, &plan);
+    let judged = check_tested(alloc, schema, form, found);
     put_opened(text, title_of_tested(form), judged)?;
     Ok(())
-}
-
-// The plan of one scheme, the universe.
-fn plan_of_one(alloc: Global, schema: &Schema) -> Result<Plan, OutOfMemory>
-    ensures universe { IfOk result (λ plan. IsPlanOver (theory_in schema.now) plan) }
-    ensures scheme { IfOk result (λ plan. plan_of plan ≡ universe_of schema.now ∷ []) }
-{
-    let mut schemes = Vec::new(alloc);
-    schemes.push(AttrSet::full(schema.width()))?;
-    Ok(Plan::new(&schema.theory(), schemes))
 }
 
 // The name of a form that the universe is tested for, at the start of a title.
@@ -162,14 +144,18 @@ fn put_violation(
     schema: &Schema,
     file: &Argument,
     form: TestedForm,
+    found: Option<SchemeForms>,
 ) -> Result<(), OutOfMemory>
+    requires found { AreFoundForms schema.now found }
     ensures added { OnOk result
         (Adds (ShowsViolation file.now schema.now form) text.old.items text.new.items) }
 {
-    match tested_violation(&schema.theory(), AttrSet::full(schema.width()), form) {
-        Ok(None) => Ok(()),
-        Ok(Some(breach)) => put_breach(alloc, text, schema, file, form, breach),
-        Err(_) => Ok(()),
+    match found {
+        Some(forms) => match breach_of(forms, form) {
+            Some(breach) => put_breach(alloc, text, schema, file, form, breach),
+            None => Ok(()),
+        },
+        None => Ok(()),
     }
 }
 

@@ -1,11 +1,7 @@
 -- What is left to prove of `synthesis_with_reasons`: what `plan_of_steps` and `print_reasons` require, and its clauses.
-use Rattle.std.proofs.Common.{◌≡◌, List, ℕ, ap, ◌∙◌}
-use Rattle.attr_sets.specs.declared.set.AttrSet.{AttrSet}
-use Rattle.dep_model.specs.declared.dep.Dep.{Dep}
+use Rattle.std.proofs.Common.{◌∙◌}
 use Rattle.dep_model.specs.Deps.{dependencies_of}
 use Rattle.schema_model.specs.Schemas.{nullable_of}
-use Rattle.schema_printer.specs.Spelling.{printed_names_of}
-use Rattle.desk_designs.proofs.SynthesisTexts.{text_is, text_of}
 use Rattle.desk_designs.proofs.synthesis_reasons.synthesis_with_reasons.Goals as goal
 
 pub plan_of_steps-requires : goal.plan_of_steps-requires
@@ -16,16 +12,12 @@ plan_of_steps-requires c = record {
 }
 
 pub print_reasons-requires : goal.print_reasons-requires
-print_reasons-requires c = record { kept = rw c.deref-3.ensures.value (c.schemes.ensures.schemes ∙ c.in_ok-plan.ensures.kept) }
+print_reasons-requires c = record { kept = c.schemes.ensures.schemes ∙ c.in_ok-plan.ensures.kept; lefts = c.requires.lefts }
 
 pub returns : goal.returns
 returns c =
     let s = c.args.schema.now in
-    let names = printed_names_of s in
     let steps = c.args.steps.now in
-    let cover = steps.cover.items in
-    let lefts = steps.lefts.items in
-    let all = steps.schemes.items in
     record {
       third = record {
         grouped = (rw (c.theory.ensures.theory) at c.in_ok-plan.ensures.grouped) (nullable_of s) c.requires.steps;
@@ -35,13 +27,9 @@ returns c =
       };
       universe = rw (c.theory.ensures.theory) at c.in_ok-plan.ensures.universe;
       reasons = record {
-        cover = dependencies_of cover;
-        all = all;
+        cover = dependencies_of steps.cover.items;
+        all = steps.schemes.items;
         steps = c.requires.steps;
-        reads = c.in_ok-reasons.ensures.text
-            ∙ ap (λ (ds : List Dep). text_of names ds c.deref-2.result.now c.deref-3.result.now) c.deref.ensures.value
-            ∙ ap (λ (xs : List AttrSet). text_of names cover xs c.deref-3.result.now) c.deref-2.ensures.value
-            ∙ ap (λ (xs : List AttrSet). text_of names cover lefts xs) c.deref-3.ensures.value
-            ∙ text_is names cover lefts all c.requires.lefts;
+        reads = c.in_ok-reasons.ensures.text;
       };
     }

@@ -9,6 +9,6 @@ use Rattle.desk_reports.proofs.forms.put_which_form.Goals as goal
 pub returns : goal.returns
 returns c = record {
   added = adds_opened (ListsFormOfAll c.args.schema.now) (title_with_words (codes "Which form") (codes "form " ++ shell_word c.args.file.now))
-      c.deref.result.now c.form_of_all.result _ _ (c.deref.ensures.value ∙ c.in_ok-title.ensures.text) c.form_of_all.ensures.response
+      c.deref.result.now c.form_of_tested.result _ _ (c.deref.ensures.value ∙ c.in_ok-title.ensures.text) c.form_of_tested.ensures.response
       c.in_ok-put_opened.ensures.added;
 }
