@@ -1,3 +1,4 @@
 pub mod KeyLemmas
 pub mod HigherLemmas
 pub mod HomeLemmas
+pub mod MovedLemmas

@@ -5,10 +5,11 @@
 //! proof.
 //!
 //! Promises: a primary key comes first among the sets that determine its scheme; in tables that can
-//! be read back each optional table is looked up after its home.
+//! be read back each optional table is looked up after its home; whether they can be does not
+//! depend on their order.
 #![tactic(auto)]
 
-ghost use Rattle.std.specs.Prelude.{◌≡◌, ℕ, ◌⊎◌, List, Contains};
+ghost use Rattle.std.specs.Prelude.{◌≡◌, ℕ, ◌⊎◌, List, Contains, IsPermutation};
 ghost use Rattle.attr_sets.specs.Attributes.{Attributes, below, IsSubset};
 ghost use Rattle.dep_model.specs.Dependencies.{Dependency};
 ghost use Rattle.dep_model.specs.Keys.{IsSuperkey};
@@ -34,4 +35,10 @@ pub fn homes_come_first()
         → IsReadable nullable tables
         → HomesComeFirst nullable (members_at tables (always_filled nullable tables))
         (members_at tables (look_up_order nullable tables)) }
+{}
+
+/// Whether tables can be read back does not depend on their order.
+pub fn readable_in_any_order()
+    ensures law { (nullable : Attributes) (tables others : List KeyedScheme) → IsPermutation tables others
+        → IsReadable nullable tables → IsReadable nullable others }
 {}

@@ -3,7 +3,8 @@ pub mod FormPlans
 pub mod PlanLengths
 mod DesignedLaws
 mod RejoinedLaws
-mod LookedUpLaws
+pub mod LookedUpLaws
+mod OwnLookUps
 pub mod UniqueLaws
 pub mod FormTables
 pub mod NameLaws
@@ -16,6 +17,7 @@ pub mod MissingAnswers
 pub mod SplitAnswers
 pub mod DesignAnswers
 pub mod RowAnswers
+pub mod JoinAnswers
 pub mod PlacedAnswers
 pub mod FolderAnswers
 pub mod SampleAnswers

@@ -1,5 +1,5 @@
 -- The tables of a migration joined again: for the laws of `rejoined`. `Desk` does not cite it.
-use Rattle.std.specs.Prelude.{◌≡◌, ◌⊎◌, ◌↔◌, ℕ, false, List, All, Contains}
+use Rattle.std.specs.Prelude.{◌≡◌, ◌⊎◌, ◌↔◌, ℕ, false, List, All, Contains, IsPermutation}
 use Rattle.attr_sets.specs.Attributes.{Attributes}
 use Rattle.csv_migrate.specs.Migration.{relations_of}
 use Rattle.csv_text.specs.Rows.{rows_text}
@@ -37,6 +37,13 @@ pub record HaveRowsInAnyOrder (schema : Schema) (plan : List Attributes) (tables
   pub in_order : List PartialRelation
   pub are : HaveRowsOf schema plan tables in_order
   pub same : (part : PartialRelation) → Contains parts part ↔ Contains in_order part
+
+-- parts are those of the tables of a migration in any order, each once
+pub record HaveRowsOnceEach (schema : Schema) (plan : List Attributes) (tables : List TableValue)
+    (parts : List PartialRelation) : Type 0 where
+  pub in_order : List PartialRelation
+  pub are : HaveRowsOf schema plan tables in_order
+  pub moved : IsPermutation in_order parts
 
 -- `rejoin` of parts gives a relation, each of its tuples once, or refuses a join of too many tuples
 abbrev pub GivesTheRows : Schema → List PartialRelation → Relation → Type 0
