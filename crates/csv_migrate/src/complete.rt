@@ -23,8 +23,9 @@ pub fn complete_rows(
     requires within_limit { width ≤ MOST_ATTRIBUTES }
     requires over { IsOver width rows.now }
     requires there { All (λ i. i < length rows.now) numbers.items }
-    ensures complete { IfOk result (λ v. v.items
-        ≡ filter (λ i. misses_none (empty_values (attributes nullable)) (attributes key) (row_at rows.now i)) numbers.items) }
+    ensures complete { IfOk result (λ v. v.items ≡ filter
+        (λ i. misses_none (empty_values (attributes nullable)) (attributes key) (row_at rows.now i))
+        numbers.items) }
 {
     if !key.intersects(nullable) {
         return Ok(numbers);
@@ -44,7 +45,8 @@ fn is_complete(rows: &Rows, width: u8, nullable: AttrSet, key: AttrSet, row: usi
     requires within_limit { width ≤ MOST_ATTRIBUTES }
     requires over { IsOver width rows.now }
     requires row { row < length rows.now }
-    ensures complete { result ≡ misses_none (empty_values (attributes nullable)) (attributes key) (row_at rows.now row) }
+    ensures complete { result
+        ≡ misses_none (empty_values (attributes nullable)) (attributes key) (row_at rows.now row) }
 {
     for attribute in 0..width {
         if !key.contains(attribute) {
@@ -63,7 +65,8 @@ fn is_missing(rows: &Rows, width: u8, nullable: AttrSet, row: usize, attribute: 
     requires over { IsOver width rows.now }
     requires row { row < length rows.now }
     requires attribute { attribute < width }
-    ensures missing { result ≡ empty_values (attributes nullable) attribute (value_at (row_at rows.now row) attribute) }
+    ensures missing { result
+        ≡ empty_values (attributes nullable) attribute (value_at (row_at rows.now row) attribute) }
 {
     nullable.contains(attribute) && rows.value(row, attribute as usize).is_empty()
 }

@@ -39,7 +39,8 @@ pub fn tables(
 ) -> Result<ChosenTables, OutOfMemory>
     requires over { IsOver (width_of schema.now) rows }
     requires fits_u32 { length rows < 2 ^ 32 }
-    requires schemes_within { All (λ table. IsSubset (attributes table.scheme) (below (width_of schema.now))) design.now }
+    requires schemes_within { All
+        (λ table. IsSubset (attributes table.scheme) (below (width_of schema.now))) design.now }
     requires keys_within { All (λ table. IsSubset (attributes table.key) (attributes table.scheme)) design.now }
     requires within_limit { length design.now ≤ MOST_TABLES }
     ensures rows { IfOk result (λ v. v.rows ≡ rows) }
@@ -72,7 +73,8 @@ fn tables_of(
 ) -> Result<Vec<ChosenTable>, OutOfMemory>
     requires over { IsOver (width_of schema.now) rows.now }
     requires fits_u32 { length rows.now < 2 ^ 32 }
-    requires schemes_within { All (λ table. IsSubset (attributes table.scheme) (below (width_of schema.now))) design.now }
+    requires schemes_within { All
+        (λ table. IsSubset (attributes table.scheme) (below (width_of schema.now))) design.now }
     requires keys_within { All (λ table. IsSubset (attributes table.key) (attributes table.scheme)) design.now }
     requires within_limit { length design.now ≤ MOST_TABLES }
     ensures tables { IfOk result (λ v.

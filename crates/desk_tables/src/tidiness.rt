@@ -42,7 +42,8 @@ pub fn test_tidy(
     requires over { IsOver (width_of schema.now) rows.now }
     requires fits_u32 { length rows.now < 2 ^ 32 }
     requires keys { All (HasPrimaryKey schema.now) design.now }
-    requires schemes_within { All (λ table. IsSubset (attributes table.scheme) (universe_of schema.now)) design.now }
+    requires schemes_within { All
+        (λ table. IsSubset (attributes table.scheme) (universe_of schema.now)) design.now }
     ensures ok { IfOk result (λ _. All (IsTidyFor (empty_values (nullable_of schema.now)) rows.now) design.now) }
     ensures exit { IfErr result (ExitsAs (LosesValues schema.now design.now rows.now)) }
 {
@@ -63,7 +64,8 @@ fn untidy_rows(
     requires over { IsOver (width_of schema.now) rows.now }
     requires fits_u32 { length rows.now < 2 ^ 32 }
     requires keys { All (HasPrimaryKey schema.now) design.now }
-    requires schemes_within { All (λ table. IsSubset (attributes table.scheme) (universe_of schema.now)) design.now }
+    requires schemes_within { All
+        (λ table. IsSubset (attributes table.scheme) (universe_of schema.now)) design.now }
     ensures found { IfOk result (λ found.
         AreUntidy (empty_values (nullable_of schema.now)) rows.now design.now found.items) }
 {
@@ -147,7 +149,8 @@ fn first_missing(width: u8, nullable: AttrSet, set: AttrSet, rows: &Rows, row: u
     requires set { IsSubset (attributes set) (below width) }
     ensures first { MatchOption result
         (IsEmpty (missing_among (empty_values (attributes nullable)) (attributes set) (row_at rows.now row)))
-        (λ a. IsFirstFrom (missing_among (empty_values (attributes nullable)) (attributes set) (row_at rows.now row)) 0 a) }
+        (λ a. IsFirstFrom (missing_among (empty_values (attributes nullable)) (attributes set)
+        (row_at rows.now row)) 0 a) }
 {
     for attribute in 0..width {
         if set.contains(attribute) && is_missing(nullable, rows, row, attribute) {
@@ -165,7 +168,8 @@ fn first_present(width: u8, nullable: AttrSet, set: AttrSet, rows: &Rows, row: u
     requires set { IsSubset (attributes set) (below width) }
     ensures first { MatchOption result
         (IsEmpty (present_among (empty_values (attributes nullable)) (attributes set) (row_at rows.now row)))
-        (λ a. IsFirstFrom (present_among (empty_values (attributes nullable)) (attributes set) (row_at rows.now row)) 0 a) }
+        (λ a. IsFirstFrom (present_among (empty_values (attributes nullable)) (attributes set)
+        (row_at rows.now row)) 0 a) }
 {
     for attribute in 0..width {
         if set.contains(attribute) && !is_missing(nullable, rows, row, attribute) {
@@ -180,7 +184,8 @@ fn is_missing(nullable: AttrSet, rows: &Rows, row: usize, attribute: u8) -> bool
     requires attribute { attribute < MOST_ATTRIBUTES }
     requires row { row < length rows.now }
     requires position { attribute < length (row_at rows.now row) }
-    ensures missing { result ≡ empty_values (attributes nullable) attribute (value_at (row_at rows.now row) attribute) }
+    ensures missing { result
+        ≡ empty_values (attributes nullable) attribute (value_at (row_at rows.now row) attribute) }
 {
     nullable.contains(attribute) && rows.value(row, attribute as usize).is_empty()
 }

@@ -14,14 +14,14 @@ use Rattle.dep_model.proofs.SchemeLemmas.{value_in-project_tuple, fd_in-to}
 use Rattle.optional_tables.specs.declared.keyed.KeyedScheme.{KeyedScheme}
 use Rattle.optional_tables.specs.Homes.{has_outside_key}
 use Rattle.optional_tables.specs.Order.{HomesComeFirst}
-use Rattle.optional_tables.specs.LookUps.{Missing, TellsMissing, misses_none, rows_for, IsTidyFor, IsFound, IsNotFound}
+use Rattle.optional_tables.specs.LookUps.{Missing, AreMissingValues, misses_none, rows_for, IsTidyFor, IsFound, IsNotFound}
 use Rattle.lookup_laws.proofs.HomeLemmas.{home_found}
 use Rattle.optional_tables.proofs.HomeLemmas.{home_has_key}
 use Rattle.lookup_laws.proofs.MissingLemmas.{misses_same, row_from, row_to}
 use Rattle.lookup_laws.proofs.JoinedLemmas.{AgreeOnEach, with_all}
 
 module _ (n : ℕ) (ds : List Dependency) (nullable : Attributes) (missing : Missing) (r : Relation) (legal : IsLegal n ds r)
-    (tells : TellsMissing nullable missing) (t u : Tuple) (t_long : length t ≡ length u) (u_in : Contains r u) where
+    (are_missing : AreMissingValues nullable missing) (t u : Tuple) (t_long : length t ≡ length u) (u_in : Contains r u) where
   -- the row that is found has the key, which determines it
   found_agrees : (table : KeyedScheme) → IsSuperkey n ds (attributes table.scheme) (attributes table.key)
       → AgreeOn (attributes table.key) u t → IsFound missing table (rows_for missing r table) t
@@ -53,7 +53,7 @@ module _ (n : ℕ) (ds : List Dependency) (nullable : Attributes) (missing : Mis
       ]
 
       beside : has_outside_key table k ≡ true → value_at u k ≡ value_at t k
-      beside has = tells.one k (value_at u k) (value_at t k) (tidy u u_in incomplete k has) (none.beside k has)
+      beside has = are_missing.one k (value_at u k) (value_at t k) (tidy u u_in incomplete k has) (none.beside k has)
 
   -- so the tuples agree on each table that is looked up
   pub looked_up_agree : (order joined : List KeyedScheme)

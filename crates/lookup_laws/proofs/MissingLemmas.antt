@@ -14,7 +14,7 @@ use Rattle.dep_model.proofs.ListLemmas.{Contains-map, map-member}
 use Rattle.dep_model.proofs.SchemeLemmas.{members_below-member, members_below-outside, members_below-none}
 use Rattle.optional_tables.specs.declared.keyed.KeyedScheme.{KeyedScheme}
 use Rattle.optional_tables.specs.Homes.{is_optional}
-use Rattle.optional_tables.specs.LookUps.{Missing, TellsMissing, empty_values, misses_none, complete_tuples, rows_for}
+use Rattle.optional_tables.specs.LookUps.{Missing, AreMissingValues, empty_values, misses_none, complete_tuples, rows_for}
 use Rattle.lookup_laws.proofs.HomeLemmas.{key_is_filled}
 
 -- ---- a test of each member of a set
@@ -44,17 +44,17 @@ misses_same missing x t u long agree =
     (λ k m. ap (λ (v : List ℕ). not (missing k v)) (agree k m))
     ∙ ap (λ (n : ℕ). list_all (λ k. not (missing k (value_at u k))) (members_below n x)) long
 
-pub disjoint_misses_none : (nullable : Attributes) (missing : Missing) (x : Attributes) (t : Tuple) → TellsMissing nullable missing
+pub disjoint_misses_none : (nullable : Attributes) (missing : Missing) (x : Attributes) (t : Tuple) → AreMissingValues nullable missing
     → Disjoint x nullable → misses_none missing x t ≡ true
-disjoint_misses_none nullable missing x t tells apart =
+disjoint_misses_none nullable missing x t are_missing apart =
     all_members_pass (λ k. not (missing k (value_at t k))) (length t) x
     (λ k m. not_from_false (missing k (value_at t k)) (false_from_ne_true (missing k (value_at t k))
-    (λ is. true≢false (sym (tells.only k (value_at t k) is) ∙ apart k m))))
+    (λ is. true≢false (sym (are_missing.only k (value_at t k) is) ∙ apart k m))))
 
-pub filled_misses_none : (nullable : Attributes) (missing : Missing) (table : KeyedScheme) (t : Tuple) → TellsMissing nullable missing
+pub filled_misses_none : (nullable : Attributes) (missing : Missing) (table : KeyedScheme) (t : Tuple) → AreMissingValues nullable missing
     → is_optional nullable table ≡ false → misses_none missing (attributes table.key) t ≡ true
-filled_misses_none nullable missing table t tells not_so =
-    disjoint_misses_none nullable missing (attributes table.key) t tells (key_is_filled nullable table not_so)
+filled_misses_none nullable missing table t are_missing not_so =
+    disjoint_misses_none nullable missing (attributes table.key) t are_missing (key_is_filled nullable table not_so)
 
 -- ---- the rows of a table
 -- the projection of a complete tuple is one
@@ -82,18 +82,18 @@ filter_whole p [] each = refl
 filter_whole {X} p (x ∷ xs) each = rw (each x) (ap (λ (l : List X). x ∷ l) (filter_whole p xs each))
 
 -- where no value of the key can be missing, the rows are all projections
-pub filled_has_all : (nullable : Attributes) (missing : Missing) (r : Relation) (table : KeyedScheme) → TellsMissing nullable missing
+pub filled_has_all : (nullable : Attributes) (missing : Missing) (r : Relation) (table : KeyedScheme) → AreMissingValues nullable missing
     → is_optional nullable table ≡ false → rows_for missing r table ≡ ordered_projection (attributes table.scheme) r
-filled_has_all nullable missing r table tells not_so =
+filled_has_all nullable missing r table are_missing not_so =
     ap (ordered_projection (attributes table.scheme))
-    (filter_whole (misses_none missing (attributes table.key)) r (λ t. filled_misses_none nullable missing table t tells not_so))
+    (filter_whole (misses_none missing (attributes table.key)) r (λ t. filled_misses_none nullable missing table t are_missing not_so))
 
 -- ---- the empty value
 no_value : (v : List ℕ) → length v ≡ 0 → v ≡ []
 no_value [] e = refl
 no_value (b ∷ bytes) e = absurd (omega (arith, e))
 
-pub empty_is_missing : (nullable : Attributes) → TellsMissing nullable (empty_values nullable)
+pub empty_is_missing : (nullable : Attributes) → AreMissingValues nullable (empty_values nullable)
 empty_is_missing nullable = record {
   only = λ k v is. (and_parts (nullable k) (length v == 0) is).0;
   one = λ k v w is is_too.

@@ -17,7 +17,7 @@ use Rattle.dep_model.proofs.SchemeLemmas.{project_tuple-whole}
 use Rattle.optional_tables.specs.declared.keyed.KeyedScheme.{KeyedScheme}
 use Rattle.optional_tables.specs.Homes.{is_optional}
 use Rattle.optional_tables.specs.Order.{always_filled, look_up_order, members_at}
-use Rattle.optional_tables.specs.LookUps.{Missing, TellsMissing, misses_none, rows_for, schemes_of_tables, CanBeReadBack, FitsAs, FitsIn, IsFound, IsNotFound, IsReadBack, IsTidyFor}
+use Rattle.optional_tables.specs.LookUps.{Missing, AreMissingValues, misses_none, rows_for, schemes_of_tables, CanBeReadBack, FitsAs, FitsIn, IsFound, IsNotFound, IsReadBack, IsTidyFor}
 use Rattle.lookup_laws.proofs.OrderLemmas.{AreOrdered, tables_are_ordered}
 use Rattle.lookup_laws.proofs.MissingLemmas.{filled_misses_none, row_from, row_to}
 use Rattle.lookup_laws.proofs.JoinedLemmas.{AgreeOnEach, HasRowIn, filled_join, with_all, with_all_left, with_all_right}
@@ -59,7 +59,7 @@ same_on_all n tables u t covers u_long t_long agree =
     past k high = get_or_past u k [] (omega (arith, high, u_long)) ∙ sym (get_or_past t k [] (omega (arith, high, t_long)))
 
 module _ (n : ℕ) (ds : List Dependency) (nullable : Attributes) (missing : Missing) (tables : List KeyedScheme) (r : Relation)
-    (tells : TellsMissing nullable missing) (legal : IsLegal n ds r) (can : CanBeReadBack n ds nullable tables)
+    (are_missing : AreMissingValues nullable missing) (legal : IsLegal n ds r) (can : CanBeReadBack n ds nullable tables)
     (tidy : All (IsTidyFor missing r) tables) where
   -- a row is read back
   row_is_read_back : (t : Tuple) → Contains r t → IsReadBack n nullable missing tables (map (rows_for missing r) tables) t
@@ -81,7 +81,7 @@ module _ (n : ℕ) (ds : List Dependency) (nullable : Attributes) (missing : Mis
 
       fits : (table : KeyedScheme) → IsTidyFor missing r table → (b : Bool) → is_optional nullable table ≡ b
           → FitsAs b missing table (rows_for missing r table) t
-      fits table neat false not_so = row_from missing r table t t_in (filled_misses_none nullable missing table t tells not_so)
+      fits table neat false not_so = row_from missing r table t t_in (filled_misses_none nullable missing table t are_missing not_so)
       fits table neat true so = found_or_not table neat
 
   -- what is read back is a row
@@ -91,7 +91,7 @@ module _ (n : ℕ) (ds : List Dependency) (nullable : Attributes) (missing : Mis
       filled_rows in
       let u_long : length u ≡ n = All-contains (λ (v : Tuple). length v ≡ n) r u legal.over u_in in
       let all : AgreeOnEach (with_all joined order) u t =
-      looked_up_agree n ds nullable missing r legal tells t u (back.over ∙ sym u_long) u_in order joined
+      looked_up_agree n ds nullable missing r legal are_missing t u (back.over ∙ sym u_long) u_in order joined
       (λ table h. can.keys table (are.order_in table h))
       (λ table h. All-contains (IsTidyFor missing r) tables table tidy (are.order_in table h)) looked_up can.homes_first agree in
       subst (Contains r)

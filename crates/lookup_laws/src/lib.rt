@@ -19,13 +19,13 @@ ghost use Rattle.dep_model.specs.Projections.{ordered_projection, InJoin};
 ghost use Rattle.dep_model.specs.Tuples.{Tuple, Relation};
 ghost use Rattle.optional_tables.specs.declared.keyed.KeyedScheme.{KeyedScheme};
 ghost use Rattle.optional_tables.specs.Homes.{is_optional};
-ghost use Rattle.optional_tables.specs.LookUps.{CanBeReadBack, IsReadBack, IsTidyFor, Missing, TellsMissing, empty_values, rows_for, schemes_of_tables};
+ghost use Rattle.optional_tables.specs.LookUps.{CanBeReadBack, IsReadBack, IsTidyFor, Missing, AreMissingValues, empty_values, rows_for, schemes_of_tables};
 
 /// From the tables that are made of legal rows exactly the rows are read back, where these tables
 /// can be read back and each row that is not complete for one misses all that it has beside its key.
 pub fn exactly_the_rows_are_read_back()
     ensures law { (n : ℕ) (ds : List Dependency) (nullable : Attributes) (missing : Missing) (tables : List KeyedScheme)
-        (r : Relation) → TellsMissing nullable missing → IsLegal n ds r → CanBeReadBack n ds nullable tables
+        (r : Relation) → AreMissingValues nullable missing → IsLegal n ds r → CanBeReadBack n ds nullable tables
         → All (IsTidyFor missing r) tables → (t : Tuple)
         → IsReadBack n nullable missing tables (map (rows_for missing r) tables) t ↔ Contains r t }
 {}
@@ -40,11 +40,11 @@ pub fn without_optional_tables_the_join_is_read_back()
 /// The rows of a table that is not optional are the projections of all.
 pub fn tables_that_are_not_optional_have_all_rows()
     ensures law { (nullable : Attributes) (missing : Missing) (r : Relation) (table : KeyedScheme)
-        → TellsMissing nullable missing → is_optional nullable table ≡ false
+        → AreMissingValues nullable missing → is_optional nullable table ≡ false
         → rows_for missing r table ≡ ordered_projection (attributes table.scheme) r }
 {}
 
 /// In files the empty value is the one that may be missing.
 pub fn the_empty_value_is_missing()
-    ensures law { (nullable : Attributes) → TellsMissing nullable (empty_values nullable) }
+    ensures law { (nullable : Attributes) → AreMissingValues nullable (empty_values nullable) }
 {}

@@ -1,4 +1,4 @@
-/// Where an attribute stands of which a value may be missing, so that tables cannot be read back. Tables are told by
+/// Where an attribute stands of which a value may be missing, so that tables cannot be read back. Tables are named by
 /// their positions in the design, from 0.
 #[derive(Clone, Copy, Debug, PartialEq, Eq)]
 pub enum MissingRefusal {

@@ -1,5 +1,5 @@
--- The rows of tables of which some are optional, and what is read back from them: for `migrate` and `rejoin`, and for the
--- laws of `sql migrate`.
+-- The rows of tables of which some are optional, and what is read back from them: for `migrate` and `rejoin`, and for
+-- the laws of `sql migrate`.
 use Rattle.std.specs.Prelude.{◌≡◌, ◌⊎◌, ℕ, Bool, true, false, not, ◌&&◌, ◌==◌, List, length, filter, map, Contains}
 use Rattle.std.specs.List.{AllZip, list_all}
 use Rattle.attr_sets.specs.Attributes.{Attributes}
@@ -52,7 +52,7 @@ pub record IsFound (missing : Missing) (table : KeyedScheme) (rows : Relation) (
   pub complete : misses_none missing (attributes table.key) t ≡ true
   pub stands : Contains rows (project_tuple (attributes table.scheme) t)
 
--- it is not: it misses a value of the key, or no row there has its key; and it misses all that the table has beside that
+-- it is not: it misses a value of the key, or no row there has its key; and it misses all that the table has beside
 pub record IsNotFound (missing : Missing) (table : KeyedScheme) (rows : Relation) (t : Tuple) : Type 0 where
   pub none_there : misses_none missing (attributes table.key) t ≡ true
       → (row : Tuple) → Contains rows row → HasKeyOf table t row → ⊥
@@ -66,15 +66,15 @@ FitsAs true missing table rows t = IsFound missing table rows t ⊎ IsNotFound m
 abbrev pub FitsIn : Attributes → Missing → Tuple → KeyedScheme → Relation → Type 0
 FitsIn nullable missing t table rows = FitsAs (is_optional nullable table) missing table rows t
 
--- a tuple over n attributes is read back from tables: the natural join of those that are not optional, and from the others
--- what is looked up
+-- a tuple over n attributes is read back from tables: the natural join of those that are not optional, and from the
+-- others what is looked up
 pub record IsReadBack (n : ℕ) (nullable : Attributes) (missing : Missing) (tables : List KeyedScheme)
     (relations : List Relation) (t : Tuple) : Type 0 where
   pub over : length t ≡ n
   pub in_each : AllZip (FitsIn nullable missing t) tables relations
 
 -- a value is missing only where one may be, and an attribute has one missing value at most
-pub record TellsMissing (nullable : Attributes) (missing : Missing) : Type 0 where
+pub record AreMissingValues (nullable : Attributes) (missing : Missing) : Type 0 where
   pub only : (k : ℕ) (v : List ℕ) → missing k v ≡ true → nullable k ≡ true
   pub one : (k : ℕ) (v w : List ℕ) → missing k v ≡ true → missing k w ≡ true → v ≡ w
 
@@ -84,7 +84,8 @@ schemes_of_tables tables = map (λ table. attributes table.scheme) tables
 
 -- tables in which legal rows lose nothing, where the optional ones are looked up: each key determines its scheme, and
 -- each optional table has its home before it in the order of look-ups
-pub record CanBeReadBack (n : ℕ) (ds : List Dependency) (nullable : Attributes) (tables : List KeyedScheme) : Type 0 where
+pub record CanBeReadBack (n : ℕ) (ds : List Dependency) (nullable : Attributes) (tables : List KeyedScheme)
+    : Type 0 where
   pub lossless : IsLossless n ds (schemes_of_tables tables)
   pub keys : (table : KeyedScheme) → Contains tables table
       → IsSuperkey n ds (attributes table.scheme) (attributes table.key)

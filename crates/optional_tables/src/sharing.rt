@@ -8,7 +8,7 @@ use crate::KeyedScheme;
 use crate::homes::beside_key;
 use attr_sets::AttrSet;
 
-/// An attribute of which a value may be missing, with two homes. Tables are told by their positions, from 0.
+/// An attribute of which a value may be missing, with two homes. Tables are named by their positions, from 0.
 #[derive(Clone, Copy, Debug, PartialEq, Eq)]
 pub struct SharedHome {
     pub attribute: u8,
