@@ -2,9 +2,9 @@ mod PassingLaws
 pub mod FormPlans
 pub mod PlanLengths
 mod DesignedLaws
-mod RejoinedLaws
+pub mod RejoinedLaws
 pub mod LookedUpLaws
-mod OwnLookUps
+pub mod OwnLookUps
 pub mod UniqueLaws
 pub mod FormTables
 pub mod NameLaws

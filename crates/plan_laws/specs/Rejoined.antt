@@ -45,10 +45,14 @@ pub record HaveRowsOnceEach (schema : Schema) (plan : List Attributes) (tables :
   pub are : HaveRowsOf schema plan tables in_order
   pub moved : IsPermutation in_order parts
 
--- `rejoin` of parts gives a relation, each of its tuples once, or refuses a join of too many tuples
-abbrev pub GivesTheRows : Schema → List PartialRelation → Relation → Type 0
-GivesTheRows schema parts rows =
-    (response : ResponseValue) → JoinsTables schema parts response
-    → ((found : Relation) × SameRelation found rows × IsOnceEach found
+-- an answer says a relation, each of its tuples once, or refuses a join of too many tuples
+abbrev pub SaysTheRows : Schema → Relation → ResponseValue → Type 0
+SaysTheRows schema rows response =
+    ((found : Relation) × SameRelation found rows × IsOnceEach found
     × Says Yes (rows_text (names_of schema) found) response)
     ⊎ ((k : ℕ) × Says Refused (join_refusal_text (printed_names_of schema) (TooManyRows k)) response)
+
+-- so `rejoin` answers of parts
+abbrev pub GivesTheRows : Schema → List PartialRelation → Relation → Type 0
+GivesTheRows schema parts rows =
+    (response : ResponseValue) → JoinsTables schema parts response → SaysTheRows schema rows response
