@@ -210,7 +210,7 @@ joins_tables s tables response none covers small (inr (not_so, inr (NotCovered a
 joins_tables s tables response none covers small (inr (not_so, inr (TooManyRows k, large, says))) =
     absurd (either_goes (width_of s) tables small (k, large.1.0) large.1.1)
 
-rejoin_asks : (files : Files) (name : List ℕ) (names : List (List ℕ)) (looks : Looks) (response : ResponseValue) → are_one_to_64 names ≡ true
+pub rejoin_asks : (files : Files) (name : List ℕ) (names : List (List ℕ)) (looks : Looks) (response : ResponseValue) → are_one_to_64 names ≡ true
     → Answers looks (known_files files) (codes "rejoin" ∷ name ∷ names) response
     → WithFile schema_file (known_files files) name (λ r. WithParts (known_files files) r names (λ parts. JoinsTables r (tables_of parts))) response
 unfolding form_of form_over_schema form_over_rows schema_and_several Performs Does

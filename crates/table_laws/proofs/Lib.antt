@@ -1,5 +1,5 @@
-mod PartFiles
-mod MigratedFiles
+pub mod PartFiles
+pub mod MigratedFiles
 mod StatedReferences
 mod QuotedTexts
 mod CellTexts

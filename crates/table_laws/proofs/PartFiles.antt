@@ -7,11 +7,14 @@ use Rattle.std.proofs.lemmas.Bool.{cases_Bool, cases_eq, and_parts}
 use Rattle.std.proofs.lemmas.Bool.Decides.{nat_tests}
 use Rattle.std.proofs.lemmas.List.{append_assoc, append-nil, length-append, length-map, ext_get_or}
 use Rattle.std.proofs.lemmas.List.Sums.{position_or_len_is}
-use Rattle.attr_sets.specs.Attributes.{Attributes, count_below}
+use mathlib.Core.Path.{fun_ext}
+use Rattle.attr_sets.specs.Attributes.{Attributes, IsSubset, below, count_below}
+use Rattle.attr_sets.specs.Sets.{attributes}
+use Rattle.attr_sets.specs.declared.set.AttrSet.{AttrSet}
 use Rattle.attr_sets.proofs.AttributesLemmas.{count_below-before_member, same_at}
 use Rattle.csv_migrate.proofs.ProjectionLemmas.{column_count}
 use Rattle.csv_rows.specs.Columns.{with_columns, attribute_of_column, columns_of_header, columns_from, ◌>>=◌}
-use Rattle.csv_rows.specs.Reading.{value_of, tuple_of, ClosedRowOf, AreFirstRows, PartOf, TableOf}
+use Rattle.csv_rows.specs.Reading.{value_of, tuple_of, ClosedRowOf, AreFirstRows, HasScheme, PartOf, TableOf}
 use Rattle.csv_rows.specs.Quotes.{open_record}
 use Rattle.csv_rows.specs.Records.{records_of}
 use Rattle.csv_rows.specs.declared.reading.TheConstants.{MOST_ROWS}
@@ -247,3 +250,26 @@ pub part_back : (s : Schema) (x : Attributes) (rows : Relation) → All IsName (
 part_back s x rows named not_empty over typed within_limit =
     rows_mean s x rows (λ fields found. found ≡ columns_of_header (names_of s) fields)
     (sym (part_columns (names_of s) x s.valid.names_differ)) named not_empty over typed within_limit
+
+-- the header of such a text names these attributes
+pub scheme_back : (s : Schema) (x : AttrSet) (rows : Relation) → IsSubset (attributes x) (below (width_of s))
+    → All IsName (names_of s) → 0 < count_below (attributes x) (width_of s)
+    → IsOver (count_below (attributes x) (width_of s)) rows
+    → HasScheme s (rows_text (members_from (attributes x) 0 (names_of s)) rows) x
+scheme_back s x rows within named not_empty over =
+    let header = members_from (attributes x) 0 (names_of s) in
+    let wide : All (λ row. 0 < length row) rows = λ k d h. omega (arith, over k d h, not_empty) in
+    let long : 0 < length header = omega (arith, not_empty, column_count (attributes x) (names_of s)) in (
+      header,
+      rows,
+      printed_records header rows long (members_each IsName (attributes x) 0 (names_of s) named) wide,
+      members_below (width_of s) (attributes x),
+      part_columns (names_of s) (attributes x) s.valid.names_differ,
+      fun_ext (λ (k : ℕ). sym (named_members (attributes x) (width_of s) k ∙ inside k (cases_Bool (attributes x k)))),
+    )
+  where
+    inside : (k : ℕ) → (attributes x k ≡ true) ⊎ (attributes x k ≡ false)
+        → (nat_lt k (width_of s) && attributes x k) ≡ attributes x k
+    inside k (inl is) = ap (λ (b : Bool). b && attributes x k) (within k is)
+    inside k (inr no) =
+        ap (λ (b : Bool). nat_lt k (width_of s) && b) no ∙ and_false (nat_lt k (width_of s)) ∙ sym no
