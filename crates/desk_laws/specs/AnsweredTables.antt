@@ -245,9 +245,9 @@ ImportSqlIsAnsweredPostgres =
     → imported_text Postgres wanted (without_mark text) ≡ Ok printed
     → IsAnswered files (codes "import" ∷ codes "postgres" ∷ file ∷ table ∷ [])
 
--- `rejoin` is answered where the schema file means a schema, from one to 64 files are tables, no readable design that has
--- an optional one, each attribute has a column in one of them, and in their own order or from the last the joins of the
--- first tables keep within their limit
+-- `rejoin` is answered where the schema file means a schema, from one to 64 files are tables, no readable design that
+-- has an optional one, each attribute has a column in one of them, and in their own order or from the last the joins of
+-- the first tables keep within their limit
 abbrev pub RejoinIsAnswered : Type 0
 RejoinIsAnswered =
     (files : Files) (name : List ℕ) (names : List (List ℕ)) (schema : Schema)
@@ -260,8 +260,8 @@ RejoinIsAnswered =
     ⊎ IsWithinLimit (width_of schema) MOST_JOINED_ROWS (tables_from_last (tables_of parts))
     → IsAnswered files (codes "rejoin" ∷ name ∷ names)
 
--- `rejoin` is answered too where the files are a readable design that has an optional table, each attribute has a column in
--- one of them, and there are rows to which they are joined and looked up within the limit
+-- `rejoin` is answered too where the files are a readable design that has an optional table, each attribute has a
+-- column in one of them, and there are rows to which they are joined and looked up within the limit
 abbrev pub RejoinIsAnsweredLookingUp : Type 0
 RejoinIsAnsweredLookingUp =
     (files : Files) (name : List ℕ) (names : List (List ℕ)) (schema : Schema)

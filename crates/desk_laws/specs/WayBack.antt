@@ -35,8 +35,8 @@ pub record HoldTables (files : Files) (names : List (List ℕ)) (tables : List T
   pub moved : IsPermutation tables in_order
   pub each : AllZip (HoldsTable files) names in_order
 
--- rows were read from a CSV text, and are legal; they are migrated by a plan that loses nothing, to tables that can be read
--- back and lose no value
+-- rows were read from a CSV text, and are legal; they are migrated by a plan that loses nothing, to tables that can be
+-- read back and lose no value
 pub record AreMigrated (schema : Schema) (names : GivenNames) (plan : List Attributes) (text : List ℕ) (rows : Relation)
     (tables : List TableValue) : Type 0 where
   pub read : RowsOf schema text (Ok rows)

@@ -106,20 +106,29 @@ module _ (s : Schema) (names : GivenNames) (plan : List Attributes) (rows : Rela
       let grouped : IsPermutation are.design (in_order s counts ks) =
       IsPermutation-trans are.design ks (in_order s counts ks) moved
       (grouped_moved (width_of s + 1) ks counts (as_many_counts s parts ks counts keys determined)
-      (small_counts (width_of s) (theory_of s) (plan_of_tables parts) counts determined)) in
-      (ks, (counts, record {
-        keys = keys;
-        determined = determined;
-        readable = readable_moved (nullable_of s) are.design (in_order s counts ks) grouped design_readable;
-        optional = sym (list_any-IsPermutation (is_optional (nullable_of s)) are.design (in_order s counts ks) grouped) ∙ some;
-      }))
+      (small_counts (width_of s) (theory_of s) (plan_of_tables parts) counts determined)) in (
+        ks,
+        (
+          counts,
+          record {
+            keys = keys;
+            determined = determined;
+            readable = readable_moved (nullable_of s) are.design (in_order s counts ks) grouped design_readable;
+            optional = sym (list_any-IsPermutation (is_optional (nullable_of s)) are.design (in_order s counts ks) grouped) ∙ some;
+          },
+        ),
+      )
 
   -- ---- and back
   none_optional : list_any (is_optional (nullable_of s)) are.design ≡ false → HasNoOptional s plan
-  none_optional none = (are.design, are.keyed, All-members (λ (t : KeyedScheme). is_optional (nullable_of s) t ≡ false) are.design
-      (λ t t_in. false_from_ne_true (is_optional (nullable_of s) t) (λ is.
-      true≢false (sym (list_any-from_Any (is_optional (nullable_of s)) are.design
-      (Any-from (λ (u : KeyedScheme). is_optional (nullable_of s) u ≡ true) are.design t t_in is)) ∙ none))))
+  none_optional none = (
+    are.design,
+    are.keyed,
+    All-members (λ (t : KeyedScheme). is_optional (nullable_of s) t ≡ false) are.design
+        (λ t t_in. false_from_ne_true (is_optional (nullable_of s) t) (λ is.
+        true≢false (sym (list_any-from_Any (is_optional (nullable_of s)) are.design
+        (Any-from (λ (u : KeyedScheme). is_optional (nullable_of s) u ≡ true) are.design t t_in is)) ∙ none))),
+  )
 
   in_any_order : HaveRowsInAnyOrder s plan tables parts
   in_any_order = record {

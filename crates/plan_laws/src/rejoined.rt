@@ -30,8 +30,8 @@ ghost use Rattle.desk_tables.specs.Tidiness.{AreTidy};
 ghost use Rattle.desk_tables.specs.declared.rejoining.TheConstants.{MOST_JOINED_ROWS};
 ghost use Rattle.plan_laws.specs.Rejoined.{GivesTheRows, HasNoOptional, HaveRowsInAnyOrder, HaveRowsOf, HaveRowsOnceEach};
 
-/// Of the tables that `migrate` makes of legal rows by a plan that loses nothing and has no optional table, `rejoin` gives
-/// the rows, each once, or refuses a join of too many.
+/// Of the tables that `migrate` makes of legal rows by a plan that loses nothing and has no optional table, `rejoin`
+/// gives the rows, each once, or refuses a join of too many.
 pub fn migrated_tables_are_rejoined()
     ensures law { (schema : Schema) (names : GivenNames) (plan : List Attributes) (rows : Relation)
         (tables : List TableValue) (parts : List PartialRelation) → LosesNothing schema plan → HasNoOptional schema plan
@@ -57,8 +57,8 @@ pub fn tables_are_looked_up()
         → HaveLookUps schema parts keyed counts → GivesTheRows schema parts rows }
 {}
 
-/// The tables that `migrate` makes by a plan that loses nothing, can be read back and has an optional table are, each once and
-/// in whatever order, such a design.
+/// The tables that `migrate` makes by a plan that loses nothing, can be read back and has an optional table are such a
+/// design, each once and in whatever order.
 pub fn migrated_tables_have_look_ups()
     ensures law { (schema : Schema) (names : GivenNames) (plan : List Attributes) (rows : Relation)
         (tables : List TableValue) (parts : List PartialRelation) → LosesNothing schema plan
@@ -68,8 +68,8 @@ pub fn migrated_tables_have_look_ups()
 {}
 
 /// There and back: where `migrate` makes tables of legal rows by a plan that loses nothing and can be read back, and no
-/// table loses a value, `rejoin` of them, each once and in whatever order, gives exactly the rows, each once, or refuses a
-/// join of too many, whether a table is optional or none.
+/// table loses a value, `rejoin` of them, each once and in whatever order, gives exactly the rows, each once, or
+/// refuses a join of too many, whether a table is optional or none.
 pub fn rows_come_back()
     ensures law { (schema : Schema) (names : GivenNames) (plan : List Attributes) (rows : Relation)
         (tables : List TableValue) (parts : List PartialRelation) → LosesNothing schema plan
@@ -79,8 +79,8 @@ pub fn rows_come_back()
 {}
 
 /// What `rejoin` answers of tables that are a readable design with an optional table: where each attribute is in one of
-/// them, the rows to which they are joined and looked up within the limit; else the refusal of the first attribute that is
-/// in none, or that there are too many rows.
+/// them, the rows to which they are joined and looked up within the limit; else the refusal of the first attribute that
+/// is in none, or that there are too many rows.
 pub fn look_ups_are_answered()
     ensures rows { (schema : Schema) (tables : List PartialRelation) (keyed : List KeyedScheme) (counts : List ℕ)
         (rows : Relation) (response : ResponseValue) → HaveLookUps schema tables keyed counts
