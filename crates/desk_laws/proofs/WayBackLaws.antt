@@ -1,6 +1,6 @@
 -- The files of a migration mean its tables; so `rejoin` of them, in whatever order they are named, says the rows.
 use Rattle.std.proofs.Common.{◌≡◌, ◌+◌, ◌<◌, ◌≤◌, ℕ, zero, suc, Bool, true, false, List, [], ◌∷◌, length, map, Ok, Err, Result, refl, sym, ap, ap₂, subst, ◌∙◌, arith, IsPermutation}
-use Rattle.std.specs.Prelude.{All, codes}
+use Rattle.std.specs.Prelude.{All, codes, slice_index_or}
 use Rattle.std.specs.List.{AllZip}
 use Rattle.std.proofs.lemmas.List.Elements.{All-contains, All-head, All-tail}
 use Rattle.std.proofs.lemmas.List.Sorted.{All-permutation, IsPermutation-map}
@@ -72,12 +72,14 @@ few_rows s Means text (header ∷ records) rows (Ok columns, means, under) = by 
 
     by : (m : ℕ) → length rows ≡ m → m ≤ MOST_ROWS
     by zero long = omega arith
-    by (suc m) long = low m _ _ (is_open (open_record text) (m + 2)) (under.0.each m (omega (arith, long)))
+    by (suc m) long =
+        low m (slice_index_or records m []) (slice_index_or rows m []) (is_open (open_record text) (m + 2))
+        (under.0.each m (omega (arith, long)))
 
 -- ---- tables beside the design
-record IsTableFor (s : Schema) (rows : Relation) (table : TableValue) (keyed : KeyedScheme) : Type 0 where
+record IsTableFor (s : Schema) (r : Relation) (table : TableValue) (keyed : KeyedScheme) : Type 0 where
   columns : table.columns ≡ column_names s (attributes keyed.scheme)
-  rows : table.rows ≡ rows_for (empty_values (nullable_of s)) rows keyed
+  rows : table.rows ≡ rows_for (empty_values (nullable_of s)) r keyed
 
 for_design : (s : Schema) (names : GivenNames) (rows : Relation) (number : ℕ) (design : List KeyedScheme)
     → AllZip (IsTableFor s rows) (tables_from s names rows number design) design
