@@ -211,31 +211,31 @@ looks_up_so s tables keyed counts response looks (inr (none, joins)) = absurd (n
 
 module _ (s : Schema) (tables : List PartialRelation) (keyed : List KeyedScheme) (counts : List ℕ)
     (looks : HaveLookUps s tables keyed counts) where
-  abbrev joined : List PartialRelation
-  joined = joined_tables s tables keyed
+  abbrev filled : List PartialRelation
+  filled = joined_tables s tables keyed
 
-  abbrev others : List PartialRelation
-  others = looked_up_tables s tables keyed counts
+  abbrev optional : List PartialRelation
+  optional = looked_up_tables s tables keyed counts
 
-  all_covered : Covers (width_of s) (plan_of_tables tables) → Covers (width_of s) (plan_of_tables (joined ++ others))
+  all_covered : Covers (width_of s) (plan_of_tables tables) → Covers (width_of s) (plan_of_tables (filled ++ optional))
   all_covered covers a low = looked_up_has s tables keyed counts looks a (covers a low)
 
   pub answered_rows : (rows : Relation) (response : ResponseValue) → Covers (width_of s) (plan_of_tables tables)
-      → AreJoinedAndLookedUp (width_of s) (nullable_of s) MOST_JOINED_ROWS joined others rows
+      → AreJoinedAndLookedUp (width_of s) (nullable_of s) MOST_JOINED_ROWS filled optional rows
       → JoinsTables s tables response → Says Yes (rows_text (names_of s) rows) response
   answered_rows rows response covers are joins = by (looks_up_so s tables keyed counts response looks joins)
     where
-      by : LooksUp s joined others response → Says Yes (rows_text (names_of s) rows) response
+      by : LooksUp s filled optional response → Says Yes (rows_text (names_of s) rows) response
       by (inl (found, is, says)) =
           subst (λ (r : Relation). Says Yes (rows_text (names_of s) r) response)
-          (one_looked_up s joined others found rows is.joined are) says
-      by (inr (why, refused, says)) = absurd (look_ups_go s joined others rows why are (all_covered covers) refused)
+          (one_looked_up s filled optional found rows is.joined are) says
+      by (inr (why, refused, says)) = absurd (look_ups_go s filled optional rows why are (all_covered covers) refused)
 
   pub answered_uncovered : (a : ℕ) (response : ResponseValue) → IsFirstUncovered (width_of s) (plan_of_tables tables) a
       → JoinsTables s tables response → Says Refused (join_refusal_text (printed_names_of s) (NotCovered a)) response
   answered_uncovered a response first joins = by (looks_up_so s tables keyed counts response looks joins)
     where
-      of_tables : (b : ℕ) → IsFirstUncovered (width_of s) (plan_of_tables (joined ++ others)) b
+      of_tables : (b : ℕ) → IsFirstUncovered (width_of s) (plan_of_tables (filled ++ optional)) b
           → IsFirstUncovered (width_of s) (plan_of_tables tables) b
       of_tables b refused = record {
         within = refused.within;
@@ -243,7 +243,7 @@ module _ (s : Schema) (tables : List PartialRelation) (keyed : List KeyedScheme)
         least = λ c less. looked_up_back s tables keyed counts looks c (refused.least c less);
       }
 
-      by : LooksUp s joined others response → Says Refused (join_refusal_text (printed_names_of s) (NotCovered a)) response
+      by : LooksUp s filled optional response → Says Refused (join_refusal_text (printed_names_of s) (NotCovered a)) response
       by (inl (found, is, says)) =
           absurd (first.uncovered (looked_up_back s tables keyed counts looks a (is.covered a first.within)))
       by (inr (NotCovered b, refused, says)) =
@@ -253,17 +253,17 @@ module _ (s : Schema) (tables : List PartialRelation) (keyed : List KeyedScheme)
           absurd (first.uncovered (looked_up_back s tables keyed counts looks a (covers a first.within)))
 
   pub answered_too_many : (after : ℕ) (response : ResponseValue) → Covers (width_of s) (plan_of_tables tables)
-      → AreTooMany (width_of s) (nullable_of s) MOST_JOINED_ROWS joined others after → JoinsTables s tables response
+      → AreTooMany (width_of s) (nullable_of s) MOST_JOINED_ROWS filled optional after → JoinsTables s tables response
       → Says Refused (join_refusal_text (printed_names_of s) (TooManyRows after)) response
   answered_too_many after response covers many joins = by (looks_up_so s tables keyed counts response looks joins)
     where
-      by : LooksUp s joined others response
+      by : LooksUp s filled optional response
           → Says Refused (join_refusal_text (printed_names_of s) (TooManyRows after)) response
       by (inl (found, is, says)) =
-          absurd (look_ups_go s joined others found (TooManyRows after) is.joined is.covered (all_covered covers, many))
+          absurd (look_ups_go s filled optional found (TooManyRows after) is.joined is.covered (all_covered covers, many))
       by (inr (why, refused, says)) =
           subst (λ (w : JoinRefusal). Says Refused (join_refusal_text (printed_names_of s) w) response)
-          (one_look_up_refusal (width_of s) (nullable_of s) MOST_JOINED_ROWS joined others why (TooManyRows after) refused
+          (one_look_up_refusal (width_of s) (nullable_of s) MOST_JOINED_ROWS filled optional why (TooManyRows after) refused
           (all_covered covers, many)) says
 
 -- ---- one answer
