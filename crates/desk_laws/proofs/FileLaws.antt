@@ -8,7 +8,8 @@ use Rattle.attr_sets.specs.Sets.{attributes}
 use Rattle.candidate_search.specs.declared.side.TooManyLeftSides.{TooManyLeftSides}
 use Rattle.csv_rows.specs.declared.part.PartialRows.{PartialRows}
 use Rattle.dep_model.specs.Projections.{Covers}
-use Rattle.schema_model.specs.Schemas.{width_of}
+use Rattle.dep_model.specs.Tuples.{Relation}
+use Rattle.schema_model.specs.Schemas.{nullable_of, width_of}
 use Rattle.schema_model.specs.Schemas.{Schema}
 use Rattle.headed_rows.specs.Headings.{HeadedRows, discovered}
 use Rattle.lexer.specs.Bytes.{number_of}
@@ -34,7 +35,9 @@ use Rattle.desk_inputs.specs.Inputs.{schema_file}
 use Rattle.desk_cli.specs.Performs.{Answers, AnswersRules, Performs, Does}
 use Rattle.desk_inputs.specs.Readings.{known_files}
 use Rattle.desk_inputs.specs.Parts.{ArePartFiles, WithParts}
-use Rattle.desk_tables.specs.Rejoining.{HaveLookUps, JoinsTables}
+use Rattle.desk_tables.specs.Rejoining.{HaveLookUps, JoinsTables, joined_tables, looked_up_tables}
+use Rattle.plan_laws.proofs.JoinAnswers.{answered_rows}
+use Rattle.table_join.specs.LookUps.{AreJoinedAndLookedUp}
 use Rattle.optional_tables.specs.declared.keyed.KeyedScheme.{KeyedScheme}
 use Rattle.desk_laws.specs.Completeness.{IsYesOrNo, IsAnswered}
 use Rattle.desk_laws.proofs.CompleteLaws.{after_schema}
@@ -207,7 +210,7 @@ joins_tables s tables response none covers small (inr (not_so, inr (NotCovered a
 joins_tables s tables response none covers small (inr (not_so, inr (TooManyRows k, large, says))) =
     absurd (either_goes (width_of s) tables small (k, large.1.0) large.1.1)
 
-rejoin_asks : (files : Files) (name : List ℕ) (names : List (List ℕ)) (looks : Looks) (response : ResponseValue) → are_one_to_64 names ≡ true
+pub rejoin_asks : (files : Files) (name : List ℕ) (names : List (List ℕ)) (looks : Looks) (response : ResponseValue) → are_one_to_64 names ≡ true
     → Answers looks (known_files files) (codes "rejoin" ∷ name ∷ names) response
     → WithFile schema_file (known_files files) name (λ r. WithParts (known_files files) r names (λ parts. JoinsTables r (tables_of parts))) response
 unfolding form_of form_over_schema form_over_rows schema_and_several Performs Does
@@ -225,3 +228,18 @@ rejoin_answered files name names schema parts file within_limit are none covers 
     (after_schema files name schema
     (λ r. WithParts (known_files files) r names (λ others. JoinsTables r (tables_of others))) response file
     (rejoin_asks files name names looks response within_limit answered)))
+
+pub rejoin_answered_looking_up : (files : Files) (name : List ℕ) (names : List (List ℕ)) (schema : Schema) (parts : List PartialRows)
+    (keyed : List KeyedScheme) (counts : List ℕ) (rows : Relation) → IsFile schema_file (known_files files) name schema
+    → are_one_to_64 names ≡ true → ArePartFiles (known_files files) schema names parts
+    → HaveLookUps schema (tables_of parts) keyed counts → Covers (width_of schema) (plan_of_tables (tables_of parts))
+    → AreJoinedAndLookedUp (width_of schema) (nullable_of schema) MOST_JOINED_ROWS
+    (joined_tables schema (tables_of parts) keyed) (looked_up_tables schema (tables_of parts) keyed counts) rows
+    → IsAnswered files (codes "rejoin" ∷ name ∷ names)
+rejoin_answered_looking_up files name names schema parts keyed counts rows file within_limit are have covers joined looks response answered =
+    inl (ap (λ (a : ResponseValue). a.status)
+    (answered_rows schema (tables_of parts) keyed counts have rows response covers joined
+    (after_parts files schema names parts (JoinsTables schema) response are
+    (after_schema files name schema
+    (λ r. WithParts (known_files files) r names (λ others. JoinsTables r (tables_of others))) response file
+    (rejoin_asks files name names looks response within_limit answered)))))

@@ -30,3 +30,4 @@ mod NumberedNames
 mod ImportedLaws
 mod PlainFronts
 mod OneWords
+mod WayBackLaws

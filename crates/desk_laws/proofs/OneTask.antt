@@ -26,7 +26,8 @@ use Rattle.plan_laws.proofs.FormAnswers.{one_form_of_all, one_list_of_forms}
 use Rattle.plan_laws.proofs.FormTables.{one_synthesis}
 use Rattle.plan_laws.proofs.PlacedAnswers.{one_form_placed, one_plan_placed}
 use Rattle.plan_laws.proofs.ReasonAnswers.{one_explained_split, one_explained_synthesis}
-use Rattle.plan_laws.proofs.RowAnswers.{one_rejoined, one_rows_answer}
+use Rattle.plan_laws.proofs.JoinAnswers.{one_rejoined}
+use Rattle.plan_laws.proofs.RowAnswers.{one_rows_answer}
 use Rattle.plan_laws.proofs.SplitAnswers.{one_split_answer, one_wide_split_answer}
 use Rattle.plan_laws.proofs.UniqueLaws.{one_form, one_join, one_keeping}
 use Rattle.desk_cli.specs.Performs.{AnswersPair, AnswersPlan, AnswersRows, AnswersSchema, Does, WithValues}

@@ -5,7 +5,7 @@ use Rattle.armstrong_rel.specs.Refusals.{IsFirstMvd, HasTooManyRows, IsTooWideTo
 use Rattle.candidate_search.specs.declared.side.TooManyLeftSides.{TooManyLeftSides}
 use Rattle.csv_rows.specs.declared.part.PartialRows.{PartialRows}
 use Rattle.dep_model.specs.Projections.{Covers}
-use Rattle.schema_model.specs.Schemas.{width_of, theory_of, theory_in, universe_of}
+use Rattle.schema_model.specs.Schemas.{nullable_of, width_of, theory_of, theory_in, universe_of}
 use Rattle.dep_model.specs.Tuples.{Relation}
 use Rattle.schema_model.specs.Schemas.{Schema}
 use Rattle.headed_rows.specs.Headings.{HeadedRows}
@@ -16,13 +16,14 @@ use Rattle.fd_search.specs.Keys.{HasTooManyKeys}
 use Rattle.dep_model.specs.declared.form.Form.{Form}
 use Rattle.dep_model.specs.declared.form.Form.TheVariants as forms
 use Rattle.table_join.specs.Answers.{IsWithinLimit, tables_from_last}
+use Rattle.table_join.specs.LookUps.{AreJoinedAndLookedUp}
 use Rattle.table_join.specs.Tables.{tables_of, plan_of_tables}
 use Rattle.plan_printer.specs.NamedPlans.{NamedSchemes}
 use Rattle.desk_outside.specs.Files.{Files}
 use Rattle.near_rules.specs.NearRules.{IsTriedWhole}
 use Rattle.desk_discovery.specs.Discoveries.{HasTooManyLeftSides}
 use Rattle.optional_tables.specs.declared.keyed.KeyedScheme.{KeyedScheme}
-use Rattle.desk_tables.specs.Rejoining.{HaveLookUps}
+use Rattle.desk_tables.specs.Rejoining.{HaveLookUps, joined_tables, looked_up_tables}
 use Rattle.desk_tables.specs.declared.rejoining.TheConstants.{MOST_JOINED_ROWS}
 use Rattle.desk_inputs.specs.FileKinds.{IsFile}
 use Rattle.desk_inputs.specs.Headed.{headed_file, imported_file, whole_file}
@@ -244,9 +245,9 @@ ImportSqlIsAnsweredPostgres =
     → imported_text Postgres wanted (without_mark text) ≡ Ok printed
     → IsAnswered files (codes "import" ∷ codes "postgres" ∷ file ∷ table ∷ [])
 
--- `rejoin` is answered where the schema file means a schema, from one to 64 files are tables, no readable design that has
--- an optional one, each attribute has a column in one of them, and in their own order or from the last the joins of the
--- first tables keep within their limit
+-- `rejoin` is answered where the schema file means a schema, from one to 64 files are tables, no readable design that
+-- has an optional one, each attribute has a column in one of them, and in their own order or from the last the joins of
+-- the first tables keep within their limit
 abbrev pub RejoinIsAnswered : Type 0
 RejoinIsAnswered =
     (files : Files) (name : List ℕ) (names : List (List ℕ)) (schema : Schema)
@@ -257,4 +258,18 @@ RejoinIsAnswered =
     → Covers (width_of schema) (plan_of_tables (tables_of parts))
     → IsWithinLimit (width_of schema) MOST_JOINED_ROWS (tables_of parts)
     ⊎ IsWithinLimit (width_of schema) MOST_JOINED_ROWS (tables_from_last (tables_of parts))
+    → IsAnswered files (codes "rejoin" ∷ name ∷ names)
+
+-- `rejoin` is answered too where the files are a readable design that has an optional table, each attribute has a
+-- column in one of them, and there are rows to which they are joined and looked up within the limit
+abbrev pub RejoinIsAnsweredLookingUp : Type 0
+RejoinIsAnsweredLookingUp =
+    (files : Files) (name : List ℕ) (names : List (List ℕ)) (schema : Schema)
+    (parts : List PartialRows) (keyed : List KeyedScheme) (counts : List ℕ) (rows : Relation)
+    → IsFile schema_file (known_files files) name schema → are_one_to_64 names ≡ true
+    → ArePartFiles (known_files files) schema names parts
+    → HaveLookUps schema (tables_of parts) keyed counts
+    → Covers (width_of schema) (plan_of_tables (tables_of parts))
+    → AreJoinedAndLookedUp (width_of schema) (nullable_of schema) MOST_JOINED_ROWS
+    (joined_tables schema (tables_of parts) keyed) (looked_up_tables schema (tables_of parts) keyed counts) rows
     → IsAnswered files (codes "rejoin" ∷ name ∷ names)

@@ -19,3 +19,4 @@ pub mod AnsweredReasons
 pub mod AnsweredReferences
 pub mod AnsweredScripts
 pub mod AnsweredTables
+pub mod WayBack

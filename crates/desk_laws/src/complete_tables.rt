@@ -2,7 +2,7 @@
 //! memory (`complete` says it of every call): the laws of the commands on normal forms, plans and
 //! tables.
 
-ghost use Rattle.desk_laws.specs.AnsweredTables.{CheckFormIsAnsweredInForm, FormIsAnsweredOfAll, FormIsAnsweredOfPlan, SynthesizeFewestIsAnswered, CheckKeepsIsAnswered, SplitIsAnsweredBcnf, SplitIsAnsweredFourth, SplitIsAnsweredWide, ExhibitIsAnswered, DdlIsAnsweredInForm, DdlIsAnsweredPlan, MigrateIsAnsweredInForm, MigrateIsAnsweredPlan, SmallUniversesAreSplitBcnf, SmallUniversesAreSplitFourth, SampleIsAnswered, DiscoverIsAnswered, DiscoverIsAnsweredSmall, DiscoverIsAnsweredKeys, DiscoverNearIsAnswered, DiscoverAllIsAnswered, ImportCsvIsAnswered, ImportSqlIsAnsweredSqlite, ImportSqlIsAnsweredPostgres, RejoinIsAnswered};
+ghost use Rattle.desk_laws.specs.AnsweredTables.{CheckFormIsAnsweredInForm, FormIsAnsweredOfAll, FormIsAnsweredOfPlan, SynthesizeFewestIsAnswered, CheckKeepsIsAnswered, SplitIsAnsweredBcnf, SplitIsAnsweredFourth, SplitIsAnsweredWide, ExhibitIsAnswered, DdlIsAnsweredInForm, DdlIsAnsweredPlan, MigrateIsAnsweredInForm, MigrateIsAnsweredPlan, SmallUniversesAreSplitBcnf, SmallUniversesAreSplitFourth, SampleIsAnswered, DiscoverIsAnswered, DiscoverIsAnsweredSmall, DiscoverIsAnsweredKeys, DiscoverNearIsAnswered, DiscoverAllIsAnswered, ImportCsvIsAnswered, ImportSqlIsAnsweredSqlite, ImportSqlIsAnsweredPostgres, RejoinIsAnswered, RejoinIsAnsweredLookingUp};
 
 /// `check form`, `form`, `synthesize fewest`, `check keeps`, `split` and `exhibit` are answered where the files mean a schema
 /// and a plan, and no limit is met.
@@ -63,7 +63,9 @@ pub fn imports_are_answered()
 
 /// `rejoin` is answered where the schema file means a schema, from one to 64 files are tables, each
 /// attribute has a column in one of them, and in their own order or from the last the joins of the first
-/// tables keep within their limit.
+/// tables keep within their limit; where they are a readable design that has an optional table, this holds
+/// of the others, and what is looked up keeps within it too.
 pub fn rejoin_is_answered()
     ensures law { RejoinIsAnswered }
+    ensures looking_up { RejoinIsAnsweredLookingUp }
 {}

@@ -5,9 +5,9 @@
 //!
 //! Promises: what `implies` prints, `check proof` accepts, and `check derivation` what `explain implies`
 //! prints; what `cover` prints, `check cover` confirms, canonical or not; what `ddl` prints, `import`
-//! reads back; what `discover references` lists, `check references` confirms; where nothing fails, a
-//! call whose inputs have a meaning is answered; over known files any two answers to words are equal,
-//! but for the derivation of a goal.
+//! reads back; what `migrate` writes, `rejoin` reads back; what `discover references` lists, `check
+//! references` confirms; where nothing fails, a call whose inputs have a meaning is answered; over known
+//! files any two answers to words are equal, but for the derivation of a goal.
 #![tactic(auto)]
 
 mod accepted;
@@ -26,6 +26,7 @@ mod imported;
 mod one_answer;
 mod one_measure;
 mod one_references;
+mod way_back;
 
 pub use accepted::{
     printed_covers_are_confirmed, printed_derivation_is_accepted, printed_proof_is_accepted,
@@ -50,3 +51,4 @@ pub use one_answer::{
 };
 pub use one_measure::measures_have_one_answer;
 pub use one_references::references_have_one_answer;
+pub use way_back::files_are_rejoined;

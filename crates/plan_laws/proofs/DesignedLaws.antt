@@ -140,10 +140,11 @@ module _ (s : Schema) (names : GivenNames) (plan : List AttrSet) (designs : List
             (sym same) second);
       }
 
+  pub same_design : AreAlike are.design (map keyed designs)
+  same_design = alike_from are.design designs as_many keyed_same
+
   same_tables : tables ≡ tables_from s names rows 0 (map keyed designs)
-  same_tables =
-      are.projections
-      ∙ tables_alike s names rows 0 are.design (map keyed designs) (alike_from are.design designs as_many keyed_same)
+  same_tables = are.projections ∙ tables_alike s names rows 0 are.design (map keyed designs) same_design
 
   same_length : length tables ≡ length designs
   same_length =

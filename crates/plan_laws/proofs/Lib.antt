@@ -2,8 +2,9 @@ mod PassingLaws
 pub mod FormPlans
 pub mod PlanLengths
 mod DesignedLaws
-mod RejoinedLaws
-mod LookedUpLaws
+pub mod RejoinedLaws
+pub mod LookedUpLaws
+pub mod OwnLookUps
 pub mod UniqueLaws
 pub mod FormTables
 pub mod NameLaws
@@ -16,6 +17,7 @@ pub mod MissingAnswers
 pub mod SplitAnswers
 pub mod DesignAnswers
 pub mod RowAnswers
+pub mod JoinAnswers
 pub mod PlacedAnswers
 pub mod FolderAnswers
 pub mod SampleAnswers

@@ -13,7 +13,7 @@ use Rattle.dep_model.specs.Dependencies.{Dependency}
 use Rattle.dep_model.specs.Plans.{IsPlan}
 use Rattle.dep_model.specs.Projections.{Covers, ordered_projection, project_tuple, IsLossless}
 use Rattle.schema_model.specs.Schemas.{nullable_of, width_of, theory_of, LegalFor}
-use Rattle.dep_model.specs.Tuples.{IsOver, Relation, SameRelation, Tuple}
+use Rattle.dep_model.specs.Tuples.{IsOver as HasWidth, Relation, SameRelation, Tuple}
 use Rattle.schema_model.specs.Schemas.{Schema}
 use Rattle.dep_model.proofs.DistinctLemmas.{filter-member, ordered_projection-same}
 use Rattle.dep_model.proofs.ListLemmas.{All-members, Contains-head, Contains-later, Contains-map, map-member}
@@ -24,10 +24,13 @@ use Rattle.optional_laws.specs.KeyOrder as law
 use Rattle.optional_tables.specs.LookUps.{IsTidyFor, complete_tuples, empty_values, misses_none, rows_for, schemes_of_tables}
 use Rattle.optional_tables.specs.declared.keyed.KeyedScheme.{KeyedScheme}
 use Rattle.optional_tables.proofs.AlikeLemmas.{IsAlike}
-use Rattle.rejoin_laws.proofs.RejoinedLemmas.{HoldsRows, all_covered, rows_rejoined}
+use Rattle.rejoin_laws.proofs.RejoinedLemmas.{HoldsRows, covered_back, covered_there, rows_rejoined}
+use Rattle.rejoin_laws.proofs.MovedLemmas.{zip_long}
 use Rattle.rejoin_laws.proofs.ZipLemmas.{beside_member, zip_mapped_same, zip_weaker}
+use Rattle.rejoin_laws.specs.ByKeys.{IsOver}
 use Rattle.table_names.specs.TableNames.{GivenNames}
 use Rattle.named_tables.specs.Tables.{TableValue}
+use Rattle.table_join.specs.Answers.{IsCovered}
 use Rattle.table_join.specs.LookUps.{AreJoinedAndLookedUp}
 use Rattle.split_forms.proofs.StepLemmas.{cons-head, cons-tail}
 use Rattle.table_join.specs.Tables.{IsTable, PartialRelation, plan_of_tables, rows_of_tables}
@@ -43,19 +46,13 @@ use Rattle.plan_laws.proofs.TidyAnswers.{all_tidy_alike, one_keyed, tidy_alike}
 use Rattle.plan_laws.proofs.RejoinedLaws.{keyed_of, more_lossless, relations_from, same_schemes, schemes_among}
 
 -- ---- lists beside one another
-small_counts : (n : ℕ) (ds : List Dependency) (plan : List Attributes) (counts : List ℕ) → AllZip (DeterminesSoMany n ds) plan counts
+pub small_counts : (n : ℕ) (ds : List Dependency) (plan : List Attributes) (counts : List ℕ) → AllZip (DeterminesSoMany n ds) plan counts
     → All (λ (c : ℕ). c < n + 1) counts
 small_counts n ds [] [] each = All-nil (λ (c : ℕ). c < n + 1)
 small_counts n ds [] (c ∷ cs) each = absurd each
 small_counts n ds (x ∷ plan) [] each = absurd each
 small_counts n ds (x ∷ plan) (c ∷ cs) each =
     All-cons (λ (c : ℕ). c < n + 1) c cs (omega (arith, each.0.members, count_below-le n each.0.closure)) (small_counts n ds plan cs each.1)
-
-zip_long : {X Y : Type 0} (R : X → Y → Type 0) (xs : List X) (ys : List Y) → AllZip R xs ys → length xs ≡ length ys
-zip_long R [] [] each = refl
-zip_long R [] (y ∷ ys) each = absurd each
-zip_long R (x ∷ xs) [] each = absurd each
-zip_long R (x ∷ xs) (y ∷ ys) each = ap (λ (m : ℕ). suc m) (zip_long R xs ys each.1)
 
 zip_turned : {X Y : Type 0} (R : X → Y → Type 0) (S : Y → X → Type 0) (xs : List X) (ys : List Y)
     → ((x : X) (y : Y) → Contains xs x → R x y → S y x) → AllZip R xs ys → AllZip S ys xs
@@ -94,6 +91,45 @@ rows_alike s rows t u alike =
     ap (λ (x : Attributes). ordered_projection x (filter (misses_none (empty_values (nullable_of s)) (attributes t.key)) rows)) alike.scheme
     ∙ ap (λ (x : Attributes). ordered_projection (attributes u.scheme) (filter (misses_none (empty_values (nullable_of s)) x) rows)) alike.key
 
+-- ---- files that are a readable design
+files_over : (s : Schema) (parts : List PartialRelation) (keyed : List KeyedScheme) → AllZip (IsKeyedTable s) parts keyed
+    → AllZip IsOver keyed parts
+files_over s parts keyed keys = zip_turned (IsKeyedTable s) IsOver parts keyed (λ part k part_in is. is.scheme) keys
+
+files_schemes : (s : Schema) (parts : List PartialRelation) (keyed : List KeyedScheme) → AllZip (IsKeyedTable s) parts keyed
+    → schemes_of_tables keyed ≡ plan_of_tables parts
+files_schemes s parts keyed keys =
+    sym (zip_mapped_same (λ (k : KeyedScheme). attributes k.scheme) (λ (p : PartialRelation). p.scheme) keyed parts
+    (zip_weaker IsOver (λ (k : KeyedScheme) (p : PartialRelation). p.scheme ≡ attributes k.scheme) (λ k p is. sym is) keyed parts
+    (files_over s parts keyed keys)))
+
+pub as_many_counts : (s : Schema) (parts : List PartialRelation) (keyed : List KeyedScheme) (counts : List ℕ)
+    → AllZip (IsKeyedTable s) parts keyed
+    → AllZip (DeterminesSoMany (width_of s) (theory_of s)) (plan_of_tables parts) counts → length counts ≡ length keyed
+as_many_counts s parts keyed counts keys determined =
+    sym (zip_long (DeterminesSoMany (width_of s) (theory_of s)) (plan_of_tables parts) counts determined)
+    ∙ length-map parts (λ (p : PartialRelation). p.scheme) ∙ zip_long (IsKeyedTable s) parts keyed keys
+
+-- what is joined and what is looked up have the attributes that the files have
+module _ (s : Schema) (parts : List PartialRelation) (keyed : List KeyedScheme) (counts : List ℕ)
+    (looks : HaveLookUps s parts keyed counts) where
+  as_many : length counts ≡ length keyed
+  as_many = as_many_counts s parts keyed counts looks.keys looks.determined
+
+  all_small : All (λ (c : ℕ). c < width_of s + 1) counts
+  all_small = small_counts (width_of s) (theory_of s) (plan_of_tables parts) counts looks.determined
+
+  pub looked_up_has : (a : ℕ) → IsCovered (plan_of_tables parts) a
+      → IsCovered (plan_of_tables (joined_tables s parts keyed ++ looked_up_tables s parts keyed counts)) a
+  looked_up_has a has =
+      covered_there (width_of s) (nullable_of s) keyed parts counts (files_over s parts keyed looks.keys) as_many all_small a
+      (subst (λ (schemes : List Attributes). IsCovered schemes a) (sym (files_schemes s parts keyed looks.keys)) has)
+
+  pub looked_up_back : (a : ℕ) → IsCovered (plan_of_tables (joined_tables s parts keyed ++ looked_up_tables s parts keyed counts)) a
+      → IsCovered (plan_of_tables parts) a
+  looked_up_back =
+      covered_back (width_of s) (nullable_of s) keyed parts counts (files_over s parts keyed looks.keys) as_many all_small
+
 module _ (s : Schema) (names : GivenNames) (plan : List Attributes) (rows : Relation) (tables : List TableValue)
     (parts : List PartialRelation) (lossless : LosesNothing s plan) (planned : IsPlan (width_of s) plan) (legal : LegalFor s rows)
     (tidy : AreTidy s plan rows) (are : AreTablesOf s names plan rows tables) (have : HaveRowsInAnyOrder s plan tables parts) where
@@ -117,8 +153,8 @@ module _ (s : Schema) (names : GivenNames) (plan : List Attributes) (rows : Rela
       let (d, d_in, held) = table_of_part part part_in in
       record {
         within = scheme_within part part_in;
-        over = subst (IsOver (count_below part.scheme (width_of s))) (sym held.rows)
-            (subst (λ (x : Attributes). IsOver (count_below x (width_of s)) (rows_for (empty_values (nullable_of s)) rows d)) held.scheme
+        over = subst (HasWidth (count_below part.scheme (width_of s))) (sym held.rows)
+            (subst (λ (x : Attributes). HasWidth (count_below x (width_of s)) (rows_for (empty_values (nullable_of s)) rows d)) held.scheme
             (All-members (λ (t : Tuple). length t ≡ count_below (attributes d.scheme) (width_of s)) (rows_for (empty_values (nullable_of s)) rows d)
             (λ t t_in.
             let (u, u_in, same) = map-member (project_tuple (attributes d.scheme)) (complete_tuples (empty_values (nullable_of s)) d rows) t
@@ -146,11 +182,6 @@ module _ (s : Schema) (names : GivenNames) (plan : List Attributes) (rows : Rela
           rows = held.rows ∙ rows_alike s rows d k (same_as part k d d_in held is);
         }) looks.keys
 
-    schemes_are : schemes_of_tables keyed ≡ plan_of_tables parts
-    schemes_are = sym (zip_mapped_same (λ (k : KeyedScheme). attributes k.scheme) (λ (p : PartialRelation). p.scheme) keyed parts
-        (zip_weaker (HoldsRows (nullable_of s) rows) (λ (k : KeyedScheme) (p : PartialRelation). p.scheme ≡ attributes k.scheme)
-        (λ k p is. sym is.over) keyed parts holds))
-
     keys : (t : KeyedScheme) → Contains keyed t → law.HasPrimaryKey (width_of s) (theory_of s) (nullable_of s) t
     keys t t_in =
         let (part, part_in, is) = part_of t t_in in
@@ -168,28 +199,21 @@ module _ (s : Schema) (names : GivenNames) (plan : List Attributes) (rows : Rela
         (all_tidy_alike (empty_values (nullable_of s)) rows tidy.0 are.design
         (one_keyed s plan tidy.0 are.design tidy.1 are.keyed) tidy.2) d_in))
 
-    parts_lossless : IsLossless (width_of s) (theory_of s) (schemes_of_tables keyed)
-    parts_lossless = subst (IsLossless (width_of s) (theory_of s)) (sym schemes_are)
-        (more_lossless (width_of s) (theory_of s) (plan_of_tables have.in_order) (plan_of_tables parts)
+    files_lossless : IsLossless (width_of s) (theory_of s) (plan_of_tables parts)
+    files_lossless =
+        more_lossless (width_of s) (theory_of s) (plan_of_tables have.in_order) (plan_of_tables parts)
         (schemes_among have.in_order parts (λ part has. (have.same part).1 has))
-        (order-lossless (width_of s) (theory_of s) (theory_of s) plan (plan_of_tables have.in_order) have.are.order lossless))
-
-    many : length counts ≡ length keyed
-    many =
-        sym (zip_long (DeterminesSoMany (width_of s) (theory_of s)) (plan_of_tables parts) counts looks.determined)
-        ∙ ap length (sym schemes_are) ∙ length-map keyed (λ (k : KeyedScheme). attributes k.scheme)
+        (order-lossless (width_of s) (theory_of s) (theory_of s) plan (plan_of_tables have.in_order) have.are.order lossless)
 
     covered : Covers (width_of s) (plan_of_tables (joined_tables s parts keyed ++ looked_up_tables s parts keyed counts))
-    covered = all_covered (width_of s) MOST_JOINED_ROWS (theory_of s) (nullable_of s) rows keyed parts counts holds
-        (All-members (IsTable (width_of s)) parts is_table) many
-        (small_counts (width_of s) (theory_of s) (plan_of_tables parts) counts looks.determined) keys looks.readable legal parts_lossless each_tidy
+    covered a low = looked_up_has s parts keyed counts looks a (files_lossless.covers a low)
 
     read : (found : Relation) → AreJoinedAndLookedUp (width_of s) (nullable_of s) MOST_JOINED_ROWS (joined_tables s parts keyed)
         (looked_up_tables s parts keyed counts) found → SameRelation found rows
     read found is t =
-        rows_rejoined (width_of s) MOST_JOINED_ROWS (theory_of s) (nullable_of s) rows keyed parts counts holds
-        (All-members (IsTable (width_of s)) parts is_table) many
-        (small_counts (width_of s) (theory_of s) (plan_of_tables parts) counts looks.determined) keys looks.readable legal parts_lossless each_tidy
+        rows_rejoined (width_of s) (nullable_of s) keyed parts counts (files_over s parts keyed looks.keys)
+        (as_many s parts keyed counts looks) (all_small s parts keyed counts looks) MOST_JOINED_ROWS (theory_of s) rows holds (All-members (IsTable (width_of s)) parts is_table) keys looks.readable legal
+        (subst (IsLossless (width_of s) (theory_of s)) (sym (files_schemes s parts keyed looks.keys)) files_lossless) each_tidy
         found is t
 
   pub looked_up_again : (keyed : List KeyedScheme) (counts : List ℕ) → HaveLookUps s parts keyed counts → GivesTheRows s parts rows

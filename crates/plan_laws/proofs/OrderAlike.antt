@@ -1,40 +1,13 @@
 -- The order of look-ups, and which tables are optional, rest on the attributes of schemes and keys alone.
-use Rattle.std.proofs.Common.{◌≡◌, ◌&&◌, ◌||◌, ◌+◌, ◌++◌, ℕ, zero, suc, Bool, not, if◌then◌else◌, List, [], ◌∷◌, length, refl, ap, ◌∙◌}
+use Rattle.std.proofs.Common.{◌≡◌, ◌+◌, ◌++◌, ℕ, zero, suc, Bool, not, if◌then◌else◌, List, [], ◌∷◌, length, refl, ap, ◌∙◌}
 use mathlib.Core.Path.{fun_ext}
 use Rattle.std.specs.Prelude.{reverse, slice_get}
-use Rattle.std.specs.List.{list_any}
-use Rattle.attr_sets.specs.Attributes.{Attributes, intersection}
-use Rattle.attr_sets.specs.Sets.{attributes, is_subset, is_disjoint}
+use Rattle.attr_sets.specs.Attributes.{Attributes}
 use Rattle.dep_model.specs.JoinOrders.{put_first, of_first}
 use Rattle.optional_tables.specs.declared.keyed.KeyedScheme.{KeyedScheme}
 use Rattle.optional_tables.specs.Homes.{has_home, is_home_of, is_optional}
 use Rattle.optional_tables.specs.Order.{always_filled, if_there, is_ready_at, look_up_order, looked_up_next, members_at, optional_positions, positions_from}
-use Rattle.optional_tables.proofs.AlikeLemmas.{AreAlike, IsAlike}
-
--- ---- tests of tables
-pub optional_alike : (nullable : Attributes) (t u : KeyedScheme) → IsAlike t u → is_optional nullable t ≡ is_optional nullable u
-optional_alike nullable t u alike = ap (λ (key : Attributes). not (is_disjoint key nullable)) alike.key
-
-pub home_alike : (nullable : Attributes) (t u : KeyedScheme) → IsAlike t u → (h g : KeyedScheme) → IsAlike h g
-    → is_home_of nullable t h ≡ is_home_of nullable u g
-home_alike nullable t u alike h g also =
-    ap (λ (key : Attributes).
-    is_subset key (attributes h.scheme) && is_disjoint (intersection nullable key) (attributes h.key)) alike.key
-    ∙ ap (λ (scheme : Attributes).
-    is_subset (attributes u.key) scheme && is_disjoint (intersection nullable (attributes u.key)) (attributes h.key))
-    also.scheme
-    ∙ ap (λ (key : Attributes).
-    is_subset (attributes u.key) (attributes g.scheme) && is_disjoint (intersection nullable (attributes u.key)) key)
-    also.key
-
-pub any_alike : (f g : KeyedScheme → Bool) → ((t u : KeyedScheme) → IsAlike t u → f t ≡ g u) → (one other : List KeyedScheme)
-    → AreAlike one other → list_any f one ≡ list_any g other
-any_alike f g each [] [] alike = refl
-any_alike f g each [] (u ∷ us) alike = absurd alike
-any_alike f g each (t ∷ ts) [] alike = absurd alike
-any_alike f g each (t ∷ ts) (u ∷ us) alike =
-    ap (λ (b : Bool). b || list_any f ts) (each t u alike.0)
-    ∙ ap (λ (b : Bool). g u || b) (any_alike f g each ts us alike.1)
+use Rattle.optional_tables.proofs.AlikeLemmas.{AreAlike, IsAlike, any_alike, home_alike, optional_alike}
 
 -- ---- positions
 positions_alike : (f : KeyedScheme → Bool) → ((t u : KeyedScheme) → IsAlike t u → f t ≡ f u) → (m : ℕ)

@@ -1,5 +1,5 @@
 -- The tables of a migration joined again: for the laws of `rejoined`. `Desk` does not cite it.
-use Rattle.std.specs.Prelude.{◌≡◌, ◌⊎◌, ◌↔◌, ℕ, false, List, All, Contains}
+use Rattle.std.specs.Prelude.{◌≡◌, ◌⊎◌, ◌↔◌, ℕ, false, List, All, Contains, IsPermutation}
 use Rattle.attr_sets.specs.Attributes.{Attributes}
 use Rattle.csv_migrate.specs.Migration.{relations_of}
 use Rattle.csv_text.specs.Rows.{rows_text}
@@ -38,10 +38,21 @@ pub record HaveRowsInAnyOrder (schema : Schema) (plan : List Attributes) (tables
   pub are : HaveRowsOf schema plan tables in_order
   pub same : (part : PartialRelation) → Contains parts part ↔ Contains in_order part
 
--- `rejoin` of parts gives a relation, each of its tuples once, or refuses a join of too many tuples
-abbrev pub GivesTheRows : Schema → List PartialRelation → Relation → Type 0
-GivesTheRows schema parts rows =
-    (response : ResponseValue) → JoinsTables schema parts response
-    → ((found : Relation) × SameRelation found rows × IsOnceEach found
+-- parts are those of the tables of a migration in any order, each once
+pub record HaveRowsOnceEach (schema : Schema) (plan : List Attributes) (tables : List TableValue)
+    (parts : List PartialRelation) : Type 0 where
+  pub in_order : List PartialRelation
+  pub are : HaveRowsOf schema plan tables in_order
+  pub moved : IsPermutation in_order parts
+
+-- an answer says a relation, each of its tuples once, or refuses a join of too many tuples
+abbrev pub SaysTheRows : Schema → Relation → ResponseValue → Type 0
+SaysTheRows schema rows response =
+    ((found : Relation) × SameRelation found rows × IsOnceEach found
     × Says Yes (rows_text (names_of schema) found) response)
     ⊎ ((k : ℕ) × Says Refused (join_refusal_text (printed_names_of schema) (TooManyRows k)) response)
+
+-- so `rejoin` answers of parts
+abbrev pub GivesTheRows : Schema → List PartialRelation → Relation → Type 0
+GivesTheRows schema parts rows =
+    (response : ResponseValue) → JoinsTables schema parts response → SaysTheRows schema rows response

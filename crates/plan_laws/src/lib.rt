@@ -27,7 +27,8 @@ pub use passing::{
     third_form_is_second, wide_splits_pass,
 };
 pub use rejoined::{
-    migrated_tables_are_rejoined, tables_are_looked_up, tables_are_rejoined_in_any_order,
+    look_ups_are_answered, migrated_tables_are_rejoined, migrated_tables_have_look_ups,
+    rows_come_back, tables_are_looked_up, tables_are_rejoined_in_any_order,
     view_joins_from_the_last,
 };
 pub use unique::{checks_have_one_answer, one_design_of_a_plan, one_plan_in_form, one_split_plan};

@@ -3,3 +3,4 @@ pub mod ReadBackLemmas
 pub mod ByKeyLemmas
 pub mod ZipLemmas
 pub mod RejoinedLemmas
+pub mod MovedLemmas

@@ -2,9 +2,9 @@
 -- readable design, are exactly the rows.
 use Rattle.std.proofs.Common.{◌≡◌, ℕ, ◌+◌, ◌<◌, ◌||◌, Some, Bool, true, false, true≢false, not, List, [], ◌∷◌, ◌++◌, length, map, refl, sym, ap, subst, ◌∙◌, inl, inr, arith}
 use mathlib.Core.Path.{fun_ext}
-use Rattle.std.specs.Prelude.{◌↔◌, All, Contains, slice_get}
+use Rattle.std.specs.Prelude.{◌↔◌, All, Any, Contains, slice_get}
 use Rattle.std.specs.List.{AllZip, list_any}
-use Rattle.std.proofs.lemmas.List.Elements.{Contains-append_cases, Contains-append_left, Contains-append_right}
+use Rattle.std.proofs.lemmas.List.Elements.{All-contains, All-contains_itself, Contains-append_cases, Contains-append_left, Contains-append_right}
 use Rattle.std.proofs.lemmas.List.Folds.{Any-from_list_any, list_any-from_Any}
 use Rattle.std.proofs.lemmas.Option.{same_Some, slice_get_within}
 use Rattle.std.proofs.lemmas.List.Sorted.{Contains-permutation, IsPermutation-sym}
@@ -12,7 +12,7 @@ use Rattle.attr_sets.specs.Attributes.{Attributes, IsSubset}
 use Rattle.attr_sets.specs.Sets.{attributes}
 use Rattle.dep_model.specs.Dependencies.{Dependency}
 use Rattle.dep_model.specs.Implication.{IsLegal}
-use Rattle.dep_model.specs.Projections.{Covers, IsLossless}
+use Rattle.dep_model.specs.Projections.{IsLossless}
 use Rattle.dep_model.specs.Tuples.{Relation, Tuple}
 use Rattle.dep_model.proofs.JoinLemmas.{lossless_from}
 use Rattle.dep_model.proofs.ListLemmas.{All-members, Any-from, Contains-map, map-member}
@@ -46,14 +46,8 @@ pub record HoldsRows (nullable : Attributes) (r : Relation) (keyed : KeyedScheme
   pub over : IsOver keyed table
   pub rows : table.rows ≡ rows_for (empty_values nullable) r keyed
 
-module _ (n limit : ℕ) (ds : List Dependency) (nullable : Attributes) (r : Relation) (keyed : List KeyedScheme)
-    (tables : List PartialRelation) (counts : List ℕ)
-    (holds : AllZip (HoldsRows nullable r) keyed tables) (each : All (IsTable n) tables)
-    (many : length counts ≡ length keyed) (small : All (λ (c : ℕ). c < n + 1) counts)
-    (keys : (t : KeyedScheme) → Contains keyed t → HasPrimaryKey n ds nullable t)
-    (readable : IsReadable nullable (grouped_below (n + 1) keyed counts))
-    (legal : IsLegal n ds r) (lossless : IsLossless n ds (schemes_of_tables keyed))
-    (tidy : All (IsTidyFor (empty_values nullable) r) keyed) where
+module _ (n : ℕ) (nullable : Attributes) (keyed : List KeyedScheme) (tables : List PartialRelation) (counts : List ℕ)
+    (over : AllZip IsOver keyed tables) (many : length counts ≡ length keyed) (small : All (λ (c : ℕ). c < n + 1) counts) where
   -- the design, and the tables in its order
   abbrev design : List KeyedScheme
   design = grouped_below (n + 1) keyed counts
@@ -114,23 +108,12 @@ module _ (n limit : ℕ) (ds : List Dependency) (nullable : Attributes) (r : Rel
   ]
 
   -- ---- tables beside them
-  filled_hold : AllZip (HoldsRows nullable r) filled joined
-  filled_hold = zip_members (HoldsRows nullable r) keyed tables (always_filled nullable keyed) holds
+  filled_over : AllZip IsOver filled joined
+  filled_over = zip_members IsOver keyed tables (always_filled nullable keyed) over
 
-  optional_hold : AllZip (HoldsRows nullable r) optional others
-  optional_hold =
-      zip_members (HoldsRows nullable r) design ordered (look_up_order nullable design)
-      (zip_grouped (HoldsRows nullable r) (n + 1) keyed tables counts holds)
-
-  rows_are : rows_of_tables (joined ++ others) ≡ map (rows_for (empty_values nullable) r) (filled ++ optional)
-  rows_are =
-      zip_mapped_same (rows_for (empty_values nullable) r) (λ (t : PartialRelation). t.rows) (filled ++ optional) (joined ++ others)
-      (zip_weaker (HoldsRows nullable r) (λ (k : KeyedScheme) (t : PartialRelation). t.rows ≡ rows_for (empty_values nullable) r k)
-      (λ k t is. is.rows) (filled ++ optional) (joined ++ others)
-      (zip_append (HoldsRows nullable r) filled optional joined others filled_hold optional_hold))
-
-  over_each : (ks : List KeyedScheme) (ts : List PartialRelation) → AllZip (HoldsRows nullable r) ks ts → AllZip IsOver ks ts
-  over_each ks ts all = zip_weaker (HoldsRows nullable r) IsOver (λ k t is. is.over) ks ts all
+  optional_over : AllZip IsOver optional others
+  optional_over =
+      zip_members IsOver design ordered (look_up_order nullable design) (zip_grouped IsOver (n + 1) keyed tables counts over)
 
   -- ---- the attributes of those that are joined
   same_any : (one other : List KeyedScheme) (k : ℕ) → ((t : KeyedScheme) → Contains one t → Contains other t)
@@ -156,109 +139,149 @@ module _ (n limit : ℕ) (ds : List Dependency) (nullable : Attributes) (r : Rel
   joined_attributes = fun_ext (λ (k : ℕ).
       same_any (members_at design (always_filled nullable design)) filled k same_filled_to same_filled_from
       ∙ any_mapped filled k
-      ∙ ap (λ (plan : List Attributes). list_any (λ (x : Attributes). x k) plan) (schemes_same filled joined (over_each filled joined filled_hold)))
+      ∙ ap (λ (plan : List Attributes). list_any (λ (x : Attributes). x k) plan) (schemes_same filled joined filled_over))
 
-  -- ---- the design is looked up by its keys
-  design_keys : (t : KeyedScheme) → Contains design t → HasPrimaryKey n ds nullable t
-  design_keys t t_in = keys t (from_design t t_in)
-
-  key_within : (t : KeyedScheme) → Contains design t → IsSubset (attributes t.key) (attributes t.scheme)
-  key_within t t_in k m =
-      (design_keys t t_in).key.nullable_first.within k ((design_keys t t_in).key.others_next.within k m)
-
-  homes : HomesComeFirst nullable (members_at design (always_filled nullable design)) optional
-  homes = homes_first n ds nullable design design_keys readable
-
-  none_optional : HomesAreIn nullable (members_at design (always_filled nullable design))
-  none_optional t t_in is = absurd (true≢false (sym is ∙ of_design.not_optional t t_in))
-
-  in_positions : (p : ℕ) → Contains (look_up_order nullable design) p → Contains (optional_positions nullable design) p
-  in_positions p p_in =
-      Contains-permutation (look_up_order nullable design) (optional_positions nullable design) p
-      (IsPermutation-sym (optional_positions nullable design) (look_up_order nullable design) (order_moved nullable design)) p_in
-
-  by : AreLookedUpByKeys nullable (covered_by (plan_of_tables joined)) optional
-  by = subst (λ (x : Attributes). AreLookedUpByKeys nullable x optional) joined_attributes
-      (by_keys nullable design readable key_within (always_filled nullable design) (look_up_order nullable design) homes none_optional
-      (All-members (λ (p : ℕ). p < length design) (look_up_order nullable design) (λ p p_in. low_position p (in_positions p p_in)))
-      (λ p p_in filled_too. both p (in_positions p p_in) filled_too)
-      (apart_moved nullable design)
-      (λ p t p_in at. optional_at p t (in_positions p p_in) at))
-    where
-      low_position : (p : ℕ) → Contains (optional_positions nullable design) p → p < length design
-      low_position p p_in =
-          let (j, t, is, at, passes) = position_to (is_optional nullable) 0 design p p_in in
-          let low = slice_get_within design j t at in
-          omega (arith, is, low)
-
-      optional_at : (p : ℕ) (t : KeyedScheme) → Contains (optional_positions nullable design) p → slice_get design p ≡ Some t
-          → is_optional nullable t ≡ true
-      optional_at p t p_in at =
-          let (j, u, is, here, passes) = position_to (is_optional nullable) 0 design p p_in in
-          let same : j ≡ p = omega (arith, is) in
-          ap (is_optional nullable) (same_Some t u (sym at ∙ ap (slice_get design) (sym same) ∙ here)) ∙ passes
-
-      both : (p : ℕ) → Contains (optional_positions nullable design) p → Contains (always_filled nullable design) p → ⊥
-      both p p_in filled_too =
-          let (j, u, is, here, passes) = position_to (λ t. not (is_optional nullable t)) 0 design p filled_too in
-          let same : j ≡ p = omega (arith, is) in
-          true≢false (sym passes ∙ ap not (optional_at p u p_in (ap (slice_get design) (sym same) ∙ here)))
-
-  -- ---- all
-  pub all_covered : Covers n (plan_of_tables (joined ++ others))
-  all_covered a low =
-      let (i, x, at, is, has) = lossless.covers a low in
+  -- ---- an attribute is in one of those that are joined or looked up exactly where it is in one of all
+  pub covered_there : (a : ℕ) → Any (λ (s : Attributes). s a ≡ true) (schemes_of_tables keyed)
+      → Any (λ (s : Attributes). s a ≡ true) (plan_of_tables (joined ++ others))
+  covered_there a (i, x, at, is, has) =
       let (t, t_in, same) = map-member (λ (k : KeyedScheme). attributes k.scheme) keyed x (i, at, is) in
-      let (b, b_in, holds_b) = beside_member (HoldsRows nullable r) (filled ++ optional) (joined ++ others)
-      (zip_append (HoldsRows nullable r) filled optional joined others filled_hold optional_hold) t (all_there t (to_design t t_in)) in
+      let (b, b_in, b_over) = beside_member IsOver (filled ++ optional) (joined ++ others)
+      (zip_append IsOver filled optional joined others filled_over optional_over) t (all_there t (to_design t t_in)) in
       Any-from (λ (s : Attributes). s a ≡ true) (plan_of_tables (joined ++ others)) b.scheme
       (Contains-map (λ (u : PartialRelation). u.scheme) (joined ++ others) b b_in)
-      (ap (λ (s : Attributes). s a) (sym (holds_b.over)) ∙ ap (λ (s : Attributes). s a) same ∙ has)
+      (ap (λ (s : Attributes). s a) (sym b_over) ∙ ap (λ (s : Attributes). s a) same ∙ has)
 
-  can : CanBeReadBack n ds nullable design
-  can = record {
-    lossless = lossless_from n ds (schemes_of_tables keyed) (schemes_of_tables design) lossless
-        (λ a low. let (i, x, at, is, has) = lossless.covers a low in
-        let (t, t_in, same) = map-member (λ (k : KeyedScheme). attributes k.scheme) keyed x (i, at, is) in
-        Any-from (λ (s : Attributes). s a ≡ true) (schemes_of_tables design) (attributes t.scheme)
-        (Contains-map (λ (k : KeyedScheme). attributes k.scheme) design t (to_design t t_in)) (ap (λ (s : Attributes). s a) same ∙ has))
-        (λ rel legal_rel t long every_scheme scheme has.
-        let (k, k_in, same) = map-member (λ (u : KeyedScheme). attributes u.scheme) keyed scheme has in
-        every_scheme scheme (subst (Contains (schemes_of_tables design)) same
-        (Contains-map (λ (u : KeyedScheme). attributes u.scheme) design k (to_design k k_in))));
-    keys = λ t t_in. (primary_is_key n ds nullable (attributes t.scheme) (attributes t.key) (design_keys t t_in).universe (design_keys t t_in).key).superkey;
-    readable = readable;
-    homes_first = homes;
-  }
+  among_tables : (b : PartialRelation) → Contains (joined ++ others) b → Contains tables b
+  among_tables b b_in = elim (Contains-append_cases joined others b b_in) [
+    | inl here ↦
+        All-contains (Contains tables) joined b
+        (all_at (Contains tables) tables (always_filled nullable keyed) (All-contains_itself tables)) here
+    | inr there ↦
+        All-contains (Contains tables) others b
+        (all_at (Contains tables) ordered (look_up_order nullable design)
+        (all_grouped (Contains tables) (n + 1) tables counts (All-contains_itself tables))) there
+  ]
 
-  back_to : (t : Tuple) → IsReadBack n nullable (empty_values nullable) design (map (rows_for (empty_values nullable) r) design) t
-      → IsReadBack n nullable (empty_values nullable) (filled ++ optional) (rows_of_tables (joined ++ others)) t
-  back_to t back = record {
-    over = back.over;
-    in_each = subst (λ (rs : List Relation). AllZip (FitsIn nullable (empty_values nullable) t) (filled ++ optional) rs) (sym rows_are)
-        (zipped_from (FitsIn nullable (empty_values nullable) t) (rows_for (empty_values nullable) r) (filled ++ optional) (λ x x_in.
-        zipped_at (FitsIn nullable (empty_values nullable) t) (rows_for (empty_values nullable) r) design back.in_each x (none_else x x_in)));
-  }
+  pub covered_back : (a : ℕ) → Any (λ (s : Attributes). s a ≡ true) (plan_of_tables (joined ++ others))
+      → Any (λ (s : Attributes). s a ≡ true) (plan_of_tables tables)
+  covered_back a (i, x, at, is, has) =
+      let (b, b_in, same) = map-member (λ (u : PartialRelation). u.scheme) (joined ++ others) x (i, at, is) in
+      Any-from (λ (s : Attributes). s a ≡ true) (plan_of_tables tables) b.scheme
+      (Contains-map (λ (u : PartialRelation). u.scheme) tables b (among_tables b b_in))
+      (ap (λ (s : Attributes). s a) same ∙ has)
 
-  back_from : (t : Tuple) → IsReadBack n nullable (empty_values nullable) (filled ++ optional) (rows_of_tables (joined ++ others)) t
-      → IsReadBack n nullable (empty_values nullable) design (map (rows_for (empty_values nullable) r) design) t
-  back_from t back = record {
-    over = back.over;
-    in_each = zipped_from (FitsIn nullable (empty_values nullable) t) (rows_for (empty_values nullable) r) design (λ x x_in.
-        zipped_at (FitsIn nullable (empty_values nullable) t) (rows_for (empty_values nullable) r) (filled ++ optional)
-        (subst (λ (rs : List Relation). AllZip (FitsIn nullable (empty_values nullable) t) (filled ++ optional) rs) rows_are back.in_each)
-        x (all_there x x_in));
-  }
+  module _ (limit : ℕ) (ds : List Dependency) (r : Relation) (holds : AllZip (HoldsRows nullable r) keyed tables)
+      (each : All (IsTable n) tables) (keys : (t : KeyedScheme) → Contains keyed t → HasPrimaryKey n ds nullable t)
+      (readable : IsReadable nullable (grouped_below (n + 1) keyed counts))
+      (legal : IsLegal n ds r) (lossless : IsLossless n ds (schemes_of_tables keyed))
+      (tidy : All (IsTidyFor (empty_values nullable) r) keyed) where
+    -- ---- the rows of tables
+    filled_hold : AllZip (HoldsRows nullable r) filled joined
+    filled_hold = zip_members (HoldsRows nullable r) keyed tables (always_filled nullable keyed) holds
 
-  pub rows_rejoined : (found : Relation) → AreJoinedAndLookedUp n nullable limit joined others found → (t : Tuple)
-      → Contains found t ↔ Contains r t
-  rows_rejoined found are t =
-      let read = rows_are_read_back n limit nullable filled optional joined others found
-      (all_at (IsTable n) tables (always_filled nullable keyed) each)
-      (all_at (IsTable n) ordered (look_up_order nullable design) (all_grouped (IsTable n) (n + 1) tables counts each))
-      all_covered (over_each filled joined filled_hold) (over_each optional others optional_hold)
-      (All-members (λ (s : KeyedScheme). is_optional nullable s ≡ false) filled of_keyed.not_optional)
-      (All-members (λ (s : KeyedScheme). is_optional nullable s ≡ true) optional of_design.optional) by are t in
-      let are_rows = read_back_are_rows n ds nullable (empty_values nullable) design r (empty_is_missing nullable) legal can
-      (all_grouped (IsTidyFor (empty_values nullable) r) (n + 1) keyed counts tidy) t in
-      ((λ h. are_rows.0 (back_from t (read.0 h))), (λ h. read.1 (back_to t (are_rows.1 h))))
+    optional_hold : AllZip (HoldsRows nullable r) optional others
+    optional_hold =
+        zip_members (HoldsRows nullable r) design ordered (look_up_order nullable design)
+        (zip_grouped (HoldsRows nullable r) (n + 1) keyed tables counts holds)
+
+    rows_are : rows_of_tables (joined ++ others) ≡ map (rows_for (empty_values nullable) r) (filled ++ optional)
+    rows_are =
+        zip_mapped_same (rows_for (empty_values nullable) r) (λ (t : PartialRelation). t.rows) (filled ++ optional) (joined ++ others)
+        (zip_weaker (HoldsRows nullable r) (λ (k : KeyedScheme) (t : PartialRelation). t.rows ≡ rows_for (empty_values nullable) r k)
+        (λ k t is. is.rows) (filled ++ optional) (joined ++ others)
+        (zip_append (HoldsRows nullable r) filled optional joined others filled_hold optional_hold))
+
+    -- ---- the design is looked up by its keys
+    design_keys : (t : KeyedScheme) → Contains design t → HasPrimaryKey n ds nullable t
+    design_keys t t_in = keys t (from_design t t_in)
+
+    key_within : (t : KeyedScheme) → Contains design t → IsSubset (attributes t.key) (attributes t.scheme)
+    key_within t t_in k m =
+        (design_keys t t_in).key.nullable_first.within k ((design_keys t t_in).key.others_next.within k m)
+
+    homes : HomesComeFirst nullable (members_at design (always_filled nullable design)) optional
+    homes = homes_first n ds nullable design design_keys readable
+
+    none_optional : HomesAreIn nullable (members_at design (always_filled nullable design))
+    none_optional t t_in is = absurd (true≢false (sym is ∙ of_design.not_optional t t_in))
+
+    in_positions : (p : ℕ) → Contains (look_up_order nullable design) p → Contains (optional_positions nullable design) p
+    in_positions p p_in =
+        Contains-permutation (look_up_order nullable design) (optional_positions nullable design) p
+        (IsPermutation-sym (optional_positions nullable design) (look_up_order nullable design) (order_moved nullable design)) p_in
+
+    by : AreLookedUpByKeys nullable (covered_by (plan_of_tables joined)) optional
+    by = subst (λ (x : Attributes). AreLookedUpByKeys nullable x optional) joined_attributes
+        (by_keys nullable design readable key_within (always_filled nullable design) (look_up_order nullable design) homes none_optional
+        (All-members (λ (p : ℕ). p < length design) (look_up_order nullable design) (λ p p_in. low_position p (in_positions p p_in)))
+        (λ p p_in filled_too. both p (in_positions p p_in) filled_too)
+        (apart_moved nullable design)
+        (λ p t p_in at. optional_at p t (in_positions p p_in) at))
+      where
+        low_position : (p : ℕ) → Contains (optional_positions nullable design) p → p < length design
+        low_position p p_in =
+            let (j, t, is, at, passes) = position_to (is_optional nullable) 0 design p p_in in
+            let low = slice_get_within design j t at in
+            omega (arith, is, low)
+
+        optional_at : (p : ℕ) (t : KeyedScheme) → Contains (optional_positions nullable design) p → slice_get design p ≡ Some t
+            → is_optional nullable t ≡ true
+        optional_at p t p_in at =
+            let (j, u, is, here, passes) = position_to (is_optional nullable) 0 design p p_in in
+            let same : j ≡ p = omega (arith, is) in
+            ap (is_optional nullable) (same_Some t u (sym at ∙ ap (slice_get design) (sym same) ∙ here)) ∙ passes
+
+        both : (p : ℕ) → Contains (optional_positions nullable design) p → Contains (always_filled nullable design) p → ⊥
+        both p p_in filled_too =
+            let (j, u, is, here, passes) = position_to (λ t. not (is_optional nullable t)) 0 design p filled_too in
+            let same : j ≡ p = omega (arith, is) in
+            true≢false (sym passes ∙ ap not (optional_at p u p_in (ap (slice_get design) (sym same) ∙ here)))
+
+    can : CanBeReadBack n ds nullable design
+    can = record {
+      lossless = lossless_from n ds (schemes_of_tables keyed) (schemes_of_tables design) lossless
+          (λ a low. let (i, x, at, is, has) = lossless.covers a low in
+          let (t, t_in, same) = map-member (λ (k : KeyedScheme). attributes k.scheme) keyed x (i, at, is) in
+          Any-from (λ (s : Attributes). s a ≡ true) (schemes_of_tables design) (attributes t.scheme)
+          (Contains-map (λ (k : KeyedScheme). attributes k.scheme) design t (to_design t t_in)) (ap (λ (s : Attributes). s a) same ∙ has))
+          (λ rel legal_rel t long every_scheme scheme has.
+          let (k, k_in, same) = map-member (λ (u : KeyedScheme). attributes u.scheme) keyed scheme has in
+          every_scheme scheme (subst (Contains (schemes_of_tables design)) same
+          (Contains-map (λ (u : KeyedScheme). attributes u.scheme) design k (to_design k k_in))));
+      keys = λ t t_in. (primary_is_key n ds nullable (attributes t.scheme) (attributes t.key) (design_keys t t_in).universe (design_keys t t_in).key).superkey;
+      readable = readable;
+      homes_first = homes;
+    }
+
+    back_to : (t : Tuple) → IsReadBack n nullable (empty_values nullable) design (map (rows_for (empty_values nullable) r) design) t
+        → IsReadBack n nullable (empty_values nullable) (filled ++ optional) (rows_of_tables (joined ++ others)) t
+    back_to t back = record {
+      over = back.over;
+      in_each = subst (λ (rs : List Relation). AllZip (FitsIn nullable (empty_values nullable) t) (filled ++ optional) rs) (sym rows_are)
+          (zipped_from (FitsIn nullable (empty_values nullable) t) (rows_for (empty_values nullable) r) (filled ++ optional) (λ x x_in.
+          zipped_at (FitsIn nullable (empty_values nullable) t) (rows_for (empty_values nullable) r) design back.in_each x (none_else x x_in)));
+    }
+
+    back_from : (t : Tuple) → IsReadBack n nullable (empty_values nullable) (filled ++ optional) (rows_of_tables (joined ++ others)) t
+        → IsReadBack n nullable (empty_values nullable) design (map (rows_for (empty_values nullable) r) design) t
+    back_from t back = record {
+      over = back.over;
+      in_each = zipped_from (FitsIn nullable (empty_values nullable) t) (rows_for (empty_values nullable) r) design (λ x x_in.
+          zipped_at (FitsIn nullable (empty_values nullable) t) (rows_for (empty_values nullable) r) (filled ++ optional)
+          (subst (λ (rs : List Relation). AllZip (FitsIn nullable (empty_values nullable) t) (filled ++ optional) rs) rows_are back.in_each)
+          x (all_there x x_in));
+    }
+
+    pub rows_rejoined : (found : Relation) → AreJoinedAndLookedUp n nullable limit joined others found → (t : Tuple)
+        → Contains found t ↔ Contains r t
+    rows_rejoined found are t =
+        let read = rows_are_read_back n limit nullable filled optional joined others found
+        (all_at (IsTable n) tables (always_filled nullable keyed) each)
+        (all_at (IsTable n) ordered (look_up_order nullable design) (all_grouped (IsTable n) (n + 1) tables counts each))
+        (λ a low. covered_there a (lossless.covers a low)) filled_over optional_over
+        (All-members (λ (s : KeyedScheme). is_optional nullable s ≡ false) filled of_keyed.not_optional)
+        (All-members (λ (s : KeyedScheme). is_optional nullable s ≡ true) optional of_design.optional) by are t in
+        let are_rows = read_back_are_rows n ds nullable (empty_values nullable) design r (empty_is_missing nullable) legal can
+        (all_grouped (IsTidyFor (empty_values nullable) r) (n + 1) keyed counts tidy) t in
+        ((λ h. are_rows.0 (back_from t (read.0 h))), (λ h. read.1 (back_to t (are_rows.1 h))))

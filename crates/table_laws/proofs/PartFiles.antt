@@ -271,5 +271,5 @@ scheme_back s x rows within named not_empty over =
     inside : (k : ℕ) → (attributes x k ≡ true) ⊎ (attributes x k ≡ false)
         → (nat_lt k (width_of s) && attributes x k) ≡ attributes x k
     inside k (inl is) = ap (λ (b : Bool). b && attributes x k) (within k is)
-    inside k (inr no) =
-        ap (λ (b : Bool). nat_lt k (width_of s) && b) no ∙ and_false (nat_lt k (width_of s)) ∙ sym no
+    inside k (inr lacks) =
+        ap (λ (b : Bool). nat_lt k (width_of s) && b) lacks ∙ and_false (nat_lt k (width_of s)) ∙ sym lacks

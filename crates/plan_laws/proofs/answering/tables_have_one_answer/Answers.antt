@@ -1,5 +1,6 @@
 -- The laws `tables_have_one_answer`, clause by clause.
-use Rattle.plan_laws.proofs.RowAnswers.{one_rows_answer, one_plan_migrated, one_rejoined}
+use Rattle.plan_laws.proofs.RowAnswers.{one_rows_answer, one_plan_migrated}
+use Rattle.plan_laws.proofs.JoinAnswers.{one_rejoined}
 use Rattle.plan_laws.proofs.PlacedAnswers.{one_form_placed, one_plan_placed}
 use Rattle.plan_laws.proofs.FolderAnswers.{one_form_into, one_plan_into}
 use Rattle.std.proofs.Common.{arith}
