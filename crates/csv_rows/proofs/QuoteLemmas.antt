@@ -234,17 +234,13 @@ records_begun-is text = records_begun-from (length text + 1) st.StartRecord text
 
 -- ---- one byte of a text
 pub byte_taken : (text : List ℕ) (i d : ℕ) (p q : Place) (n m : ℕ) → i < length text → q ≡ next_place p (get_or text i d)
-    → m ≡ n + count_of (begins p q)
-    → (fold next_place q (drop (i + 1) text) ≡ fold next_place p (drop i text))
-    × (m + records_begun q (drop (i + 1) text) ≡ n + records_begun p (drop i text))
+    → m ≡ n + count_of (begins p q) → m + records_begun q (drop (i + 1) text) ≡ n + records_begun p (drop i text)
 unfolding records_begun
 byte_taken text i d p q n m within next counted =
-    let places : fold next_place p (drop i text) ≡ fold next_place q (drop (i + 1) text) =
-    at_drop_more (fold next_place p) text i d within ∙ ap (λ (r : Place). fold next_place r (drop (i + 1) text)) (sym next) in
     let begun : records_begun p (drop i text) ≡ count_of (begins p q) + records_begun q (drop (i + 1) text) =
     at_drop_more (records_begun p) text i d within
     ∙ ap (λ (r : Place). count_of (begins p r) + records_begun r (drop (i + 1) text)) (sym next) in
-    (sym places, omega (arith, counted, begun))
+    omega (arith, counted, begun)
 
 pub nothing_begun : (p : Place) (text : List ℕ) (i n : ℕ) → length text ≤ i → n + records_begun p (drop i text) ≡ n
 unfolding records_begun

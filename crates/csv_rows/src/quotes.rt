@@ -1,8 +1,10 @@
-ghost use Rattle.std.specs.Prelude.{◌≡◌, ◌&&◌, not, length};
+ghost use Rattle.std.specs.Prelude.{◌≡◌, ◌&&◌, ◌==◌, false, not, length, All};
 ghost use Rattle.std.specs.List.{fold};
 ghost use Rattle.csv.specs.Reading.{strip_bom, records, default_config};
 ghost use Rattle.csv_rows.specs.Quotes as Spec;
 ghost use Rattle.csv_rows.specs.declared.quotes.Place.TheVariants as place;
+
+use memchr::memchr;
 
 /// Where a text stands, parted into records and fields, after some of its bytes.
 #[derive(Clone, Copy, Debug, PartialEq, Eq)]
@@ -20,13 +22,15 @@ pub enum Place {
 }
 
 /// The number of the record that has a quote which is never closed, from 1. It is the last record.
+/// The records are counted only where there is one.
 pub fn open_record(text: &[u8]) -> Option<usize>
     ensures open { result ≡ Spec.open_record text.now }
 {
-    let (place, records) = end_of(without_mark(text));
-    match place {
-        Place::QuotedField => Some(records),
-        _ => None,
+    let records = without_mark(text);
+    if ends_within_quotes(records) {
+        Some(records_of(records))
+    } else {
+        None
     }
 }
 
@@ -51,10 +55,36 @@ fn without_mark(text: &[u8]) -> &[u8]
     }
 }
 
-// Where a text ends, and how many records it has begun.
-fn end_of(text: &[u8]) -> (Place, usize)
-    ensures place { result.0 ≡ fold Spec.next_place place.BetweenRecords text.now }
-    ensures records { result.1 ≡ length (records default_config text.now) }
+// Whether a text ends within quotes. It is gone through from quote to quote, since of the bytes
+// between two of them the last one says it all.
+fn ends_within_quotes(text: &[u8]) -> bool
+    ensures within { result ≡ Spec.is_quoted (fold Spec.next_place place.BetweenRecords text.now) }
+{
+    let mut place = Place::BetweenRecords;
+    let mut rest = text;
+    while let Some(quote) = memchr(b'"', rest) {
+        let (before, from_quote) = rest.split_at(quote);
+        place = next_place(place_after(place, before), b'"');
+        rest = &from_quote[1..];
+    }
+    place_after(place, rest) == Place::QuotedField
+}
+
+// The place after bytes of which none is a quote.
+fn place_after(place: Place, bytes: &[u8]) -> Place
+    requires no_quote { All (λ byte. (byte == 34) ≡ false) bytes.now }
+    ensures place { result ≡ fold Spec.next_place place bytes.now }
+{
+    match place {
+        Place::QuotedField => Place::QuotedField,
+        _ if bytes.is_empty() => place,
+        _ => plain_place(bytes[bytes.len() - 1]),
+    }
+}
+
+// How many records a text has begun.
+fn records_of(text: &[u8]) -> usize
+    ensures records { result ≡ length (records default_config text.now) }
 {
     let mut place = Place::BetweenRecords;
     let mut records = 0;
@@ -65,7 +95,7 @@ fn end_of(text: &[u8]) -> (Place, usize)
         }
         place = next;
     }
-    (place, records)
+    records
 }
 
 // Whether a byte begins a record that leads from one place to another.

@@ -1,5 +1,5 @@
 -- Numbers in the order of first occurrence.
-use Rattle.std.proofs.Common.{inl, inr, true≢false, unwrap_or, option_map, ◌||◌, ◌&&◌, ◌==◌, not, nat_lt, replicate, Bor, ◌≡◌, ◌≢◌, ◌+◌, ◌<◌, ◌≤◌, ◌↔◌, ◌⊎◌, ℕ, zero, suc, Bool, true, false, if◌then◌else◌, nat_eq, List, [], ◌∷◌, ◌++◌, length, map, Option, Some, slice_index_or, get_or, refl, sym, ap, subst, ◌∙◌, arith}
+use Rattle.std.proofs.Common.{inl, inr, true≢false, unwrap_or, option_map, ◌||◌, ◌&&◌, ◌==◌, not, nat_lt, replicate, ◌≡◌, ◌≢◌, ◌+◌, ◌<◌, ◌≤◌, ◌↔◌, ◌⊎◌, ℕ, zero, suc, Bool, true, false, if◌then◌else◌, nat_eq, List, [], ◌∷◌, ◌++◌, length, map, Option, Some, slice_index_or, get_or, refl, sym, ap, subst, ◌∙◌, arith}
 use mathlib.Core.Path.{fun_ext}
 use Rattle.std.specs.List.{slice_get, list_any, position_or_len}
 use Rattle.std.proofs.Math.Seq.{get_or-append_seam}
@@ -16,6 +16,7 @@ use Rattle.indexmap.specs.IndexSet.{insert_key}
 use Rattle.row_groups.specs.Numberings.{number_at, AreGroups, AreNumbered, AreInOrder}
 use Rattle.row_groups.specs.Pairs.{Gets}
 use Rattle.row_store.specs.Rows.{row_at}
+use Rattle.row_store.specs.declared.hashing.LentValue.{LentValue}
 use Rattle.dep_model.proofs.TwoRowLemmas.{AgreeOn-union, AgreeOn-left, AgreeOn-right}
 use Rattle.std.specs.Prelude.{Contains}
 use Rattle.attr_sets.proofs.AttributesLemmas.{same_at}
@@ -199,18 +200,23 @@ same_groups rows x y groups same g = record {
   in_order = g.in_order;
 }
 
+-- the values that are lent
+abbrev pub lent_bytes : List LentValue → List (List ℕ)
+lent_bytes values = map (λ (value : LentValue). value.bytes.now) values
+
 -- one value more
-pub value_step : (value : ℕ → List ℕ) (n : ℕ) (keys after : List (Bor (List ℕ))) (key : Bor (List ℕ)) (numbers items : List ℕ) (r : ℕ)
-    → AreNumbered value n (map (λ (s : Bor (List ℕ)). s.now) keys) numbers
-    → key.now ≡ value n
-    → after ≡ insert_key (λ (x y : Bor (List ℕ)). pointwise nat_eq x.now y.now) keys key → r ≡ position_or_len (λ (y : Bor (List ℕ)). pointwise nat_eq key.now y.now) keys
+pub value_step : (value : ℕ → List ℕ) (n : ℕ) (keys after : List LentValue) (key : LentValue) (numbers items : List ℕ) (r : ℕ)
+    → AreNumbered value n (lent_bytes keys) numbers
+    → key.bytes.now ≡ value n
+    → after ≡ insert_key (λ (x y : LentValue). pointwise nat_eq x.bytes.now y.bytes.now) keys key
+    → r ≡ position_or_len (λ (y : LentValue). pointwise nat_eq key.bytes.now y.bytes.now) keys
     → items ≡ numbers ++ r ∷ []
-    → AreNumbered value (n + 1) (map (λ (s : Bor (List ℕ)). s.now) after) items
+    → AreNumbered value (n + 1) (lent_bytes after) items
 value_step value n keys after key numbers items r old is grown at pushed =
-    let gets = insert_full-Gets (λ (x y : Bor (List ℕ)). pointwise nat_eq x.now y.now) (λ (s : Bor (List ℕ)). s.now)
-    (λ x y. (bytes_eq-Decides x.now y.now).0) (λ x y. (bytes_eq-Decides x.now y.now).1) keys after key r grown at in
-    subst (λ (l : List ℕ). AreNumbered value (n + 1) (map (λ (s : Bor (List ℕ)). s.now) after) l) (sym pushed)
-    (numbered_more value n _ _ numbers r old (subst (λ (v : List ℕ). Gets v (map (λ (s : Bor (List ℕ)). s.now) keys) (map (λ (s : Bor (List ℕ)). s.now) after) r) is gets))
+    let gets = insert_full-Gets (λ (x y : LentValue). pointwise nat_eq x.bytes.now y.bytes.now) (λ (s : LentValue). s.bytes.now)
+    (λ x y. (bytes_eq-Decides x.bytes.now y.bytes.now).0) (λ x y. (bytes_eq-Decides x.bytes.now y.bytes.now).1) keys after key r grown at in
+    subst (λ (l : List ℕ). AreNumbered value (n + 1) (lent_bytes after) l) (sym pushed)
+    (numbered_more value n _ _ numbers r old (subst (λ (v : List ℕ). Gets v (lent_bytes keys) (lent_bytes after) r) is gets))
 
 and_left : (x y : Bool) → (x && y) ≡ true → x ≡ true
 and_left true y h = refl

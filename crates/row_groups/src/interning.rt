@@ -6,7 +6,7 @@ ghost use Rattle.dep_model.specs.Tuples.{IsOver};
 use crate::leaders::{leaders_of, numbers_by_leaders};
 use dep_model::OutOfMemory;
 use indexmap::IndexSet;
-use row_store::{Hashing, Rows};
+use row_store::{Hashing, LentValue, Rows};
 use std::alloc::Global;
 use std::marker::Model;
 
@@ -130,10 +130,11 @@ fn numbers_of_few(
     requires fits_u32 { length rows.now < 2 ^ 32 }
     ensures groups { IfOk result (λ few. IfSome few (λ v. AreGroups rows.now (only attribute) v.items)) }
 {
-    let mut values: IndexSet<&[u8], Hashing> = IndexSet::with_hasher(alloc, hashing);
+    let mut values = IndexSet::with_hasher(alloc, hashing);
     let mut numbers = Vec::with_capacity(alloc, rows.len())?;
     for row in 0..rows.len() {
-        let (number, _) = values.insert_full(rows.value(row, attribute as usize))?;
+        let bytes = rows.value(row, attribute as usize);
+        let (number, _) = values.insert_full(LentValue { bytes })?;
         if number > MOST_TOGETHER {
             return Ok(None);
         }

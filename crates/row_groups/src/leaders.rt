@@ -10,7 +10,7 @@ use crate::buckets::{BUCKETS, Bucket, rows_in_buckets};
 use crate::groups::{first_rows, one_group};
 use dep_model::OutOfMemory;
 use indexmap::IndexSet;
-use row_store::{FlatValues, Hashing, Rows};
+use row_store::{FlatValues, Hashing, LentValue, Rows};
 use std::alloc::Global;
 
 /// The leaders of rows by their values at an attribute. Rows with equal values are in one bucket, so each bucket
@@ -72,10 +72,11 @@ fn value_numbers(
     ensures numbered { IfOk result (λ v. (seen : List (List ℕ))
         × AreNumbered (λ k. slice_index_or values.now k []) (length values.now) seen v.items) }
 {
-    let mut set: IndexSet<&[u8], Hashing> = IndexSet::with_hasher(alloc, hashing);
+    let mut set = IndexSet::with_hasher(alloc, hashing);
     let mut numbers = Vec::with_capacity(alloc, values.len())?;
     for k in 0..values.len() {
-        let (number, _) = set.insert_full(values.value(k))?;
+        let bytes = values.value(k);
+        let (number, _) = set.insert_full(LentValue { bytes })?;
         numbers.push(number as u32)?;
     }
     Ok(numbers)

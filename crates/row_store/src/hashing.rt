@@ -1,4 +1,9 @@
-use std::hash::{BuildHasher, DefaultHasher, RandomState};
+ghost use Rattle.std.specs.Prelude.{[], ◌∷◌, nat_eq};
+ghost use Rattle.std.specs.Cmp.Lexicographic.{pointwise};
+ghost use Rattle.std.specs.Cmp.Rules.{comparing, hashing};
+ghost use Rattle.std.proofs.Common.{rules};
+
+use std::hash::{BuildHasher, DefaultHasher, Hash, Hasher, RandomState};
 use std::random::RandomSource;
 
 /// How values are hashed. It decides how long a search takes, and nothing else.
@@ -32,5 +37,36 @@ impl BuildHasher for Hashing {
             Hashing::Random(state) => state.build_hasher(),
             Hashing::Fixed => DefaultHasher::new(),
         }
+    }
+}
+
+/// A value that is lent. All its bytes are hashed at once, where those of a slice are hashed one by
+/// one.
+#[derive(Clone, Copy, Debug)]
+pub struct LentValue<'a> {
+    pub bytes: &'a [u8],
+}
+
+impl<'a> PartialEq for LentValue<'a> {
+    ghost eq = { λ x y. pointwise nat_eq x.bytes.now y.bytes.now };
+
+    ghost laws = { Prim.search (comparing, rules) };
+
+    fn eq(&self, other: &LentValue<'a>) -> bool {
+        self.bytes == other.bytes
+    }
+}
+
+impl<'a> Eq for LentValue<'a> {
+    ghost laws = { Prim.search (comparing, rules) };
+}
+
+impl<'a> Hash for LentValue<'a> {
+    ghost hash_input = { λ x. x.bytes.now ∷ [] };
+
+    ghost respects_eq = { Prim.search (hashing, rules) };
+
+    fn hash<H: Hasher>(&self, state: &mut H) {
+        state.write(self.bytes);
     }
 }
