@@ -63,6 +63,10 @@ three_parts a b c rest = simp append_assoc
 pub four_parts : (a b c d rest : List ℕ) → (a ++ b ++ c ++ d) ++ rest ≡ a ++ (b ++ (c ++ (d ++ rest)))
 four_parts a b c d rest = simp append_assoc
 
+pub six_parts : (a b c d e f rest : List ℕ)
+    → (a ++ b ++ c ++ d ++ e ++ f) ++ rest ≡ a ++ (b ++ (c ++ (d ++ (e ++ (f ++ rest)))))
+six_parts a b c d e f rest = simp append_assoc
+
 -- ---- readers
 -- what was read, and the text after it
 abbrev pub Read : Type 0 → Type 0

@@ -7,3 +7,5 @@ pub mod Items
 pub mod Clauses
 pub mod Links
 pub mod Queries
+pub mod Elements
+pub mod Statements

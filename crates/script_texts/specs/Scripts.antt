@@ -1,14 +1,14 @@
 -- Scripts that can be read back from their texts: for the law that a text has one of them, and for the laws of what is
 -- printed.
 use Rattle.std.specs.Prelude.{ℕ, ◌-◌, ◌==◌, ◌&&◌, Bool, not, IsTrue, List, length, drop, All, codes}
-use Rattle.std.specs.List.{list_all, list_any}
+use Rattle.std.specs.List.{list_all}
 use Rattle.std.specs.Str.{bytes_eq}
 use Rattle.sql_syntax.specs.Statements.{Element, column_definition, primary_key, unique_key, foreign_key, Statement, remark, begin, commit, create_table, create_zeros, create_from, create_view, insert_into, insert_all, drop_table, ask}
 use Rattle.script_texts.specs.Queries.{is_column_name, IsTableName, IsQuery}
 
 -- bytes of one line
 abbrev pub is_line : List ℕ → Bool
-is_line bytes = not (list_any (λ b. b == 10) bytes)
+is_line bytes = list_all (λ b. not (b == 10)) bytes
 
 -- ---- elements
 abbrev pub ends_with : List ℕ → List ℕ → Bool
