@@ -1,5 +1,5 @@
 -- What stands after a source is read back from its text, beside what is selected.
-use Rattle.std.proofs.Common.{◌≡◌, ◌≤◌, ◌+◌, ◌&&◌, ℕ, Bool, true, false, not, Option, Some, None, List, [], ◌∷◌, ◌++◌, drop, refl, ap, subst, ◌∙◌, arith, append_assoc}
+use Rattle.std.proofs.Common.{◌≡◌, ◌+◌, ℕ, true, false, not, Option, Some, None, List, [], ◌∷◌, ◌++◌, drop, refl, ap, subst, ◌∙◌, arith, append_assoc}
 use Rattle.std.specs.Prelude.{◌==◌, if◌then◌else◌, codes}
 use Rattle.std.specs.List.{list_all}
 use Rattle.std.proofs.lemmas.Bool.{and_parts, not-true}
@@ -7,7 +7,7 @@ use Rattle.sql_syntax.specs.Names.{comma_list}
 use Rattle.sql_syntax.specs.Printing.{column_text, condition_text, having_text, clause_text}
 use Rattle.sql_syntax.specs.Syntax.{Column, Condition, Item, Clause, each_row, rows_where, group_where, groups_by}
 use Rattle.script_texts.specs.Queries.{is_column, is_condition, is_having, are_one_group, is_clause}
-use Rattle.script_texts.proofs.Follows.{after_blank, next, is_parted, stops, stops_first, stops_rest, stops_parted, stops_some, Read, and_then}
+use Rattle.script_texts.proofs.Follows.{after_blank, next, is_parted, stops, stops_first, stops_parted, stops_some, Read, and_then}
 use Rattle.script_texts.proofs.Lists.{ReadsBack, Reads}
 use Rattle.script_texts.proofs.Conditions.{condition_stops, read_condition, condition_reads}
 use Rattle.script_texts.proofs.Items.{comma, read_columns, columns_read}
@@ -30,12 +30,12 @@ nothing_said items = if are_one_group items then groups_by [] None else each_row
 abbrev pub read_clause : List Item → ℕ → List ℕ → Read Clause
 read_clause items n text =
     if next text == after_blank 87 then
-      and_then (read_condition n (drop 7 text)) (λ p rest. Some (taken_where items p, rest))
+    and_then (read_condition n (drop 7 text)) (λ p rest. Some (taken_where items p, rest))
     else if next text == after_blank 71 then
-      and_then (read_columns n (drop 10 text))
-      (λ columns rest. and_then (read_having n rest) (λ having after. Some (groups_by columns having, after)))
+    and_then (read_columns n (drop 10 text))
+    (λ columns rest. and_then (read_having n rest) (λ having after. Some (groups_by columns having, after)))
     else if next text == after_blank 72 then
-      and_then (read_condition n (drop 8 text)) (λ p rest. Some (groups_by [] (Some p), rest))
+    and_then (read_condition n (drop 8 text)) (λ p rest. Some (groups_by [] (Some p), rest))
     else Some (nothing_said items, text)
 
 -- ---- one clause

@@ -1,5 +1,5 @@
 -- Tests of values are read back from their texts.
-use Rattle.std.proofs.Common.{◌≡◌, ◌≤◌, ◌+◌, ℕ, zero, suc, Bool, true, false, ◌&&◌, Some, None, List, [], ◌∷◌, ◌++◌, drop, refl, ap, ◌∙◌, sym, arith, append_assoc}
+use Rattle.std.proofs.Common.{◌≡◌, ◌+◌, ℕ, zero, suc, Bool, true, Some, None, List, ◌∷◌, ◌++◌, drop, refl, ap, ◌∙◌, sym, arith, append_assoc}
 use Rattle.std.specs.Prelude.{◌==◌, if◌then◌else◌, codes}
 use Rattle.std.proofs.lemmas.Bool.{and_parts, true≢false}
 use Rattle.sql_syntax.specs.Printing.{scalar_text, condition_text}
@@ -20,7 +20,7 @@ condition_stops = after_blank 79 ∷ tests_stops
 abbrev test_of : ℕ → Scalar → List ℕ → Read Condition
 test_of n x text =
     if next text == after_blank 73 then
-      (if head (drop 5 text) == 85 then Some (is_missing x, drop 8 text) else Some (is_present x, drop 12 text))
+    (if head (drop 5 text) == 85 then Some (is_missing x, drop 8 text) else Some (is_present x, drop 12 text))
     else if next text == after_blank 60 then and_then (read_scalar n (drop 4 text)) (λ y rest. Some (differs x y, rest))
     else if next text == after_blank 61 then and_then (read_scalar n (drop 3 text)) (λ y rest. Some (equals x y, rest))
     else and_then (read_scalar n (drop 3 text)) (λ y rest. Some (exceeds x y, rest))
@@ -103,9 +103,9 @@ more_tests n p rest =
 
 last_test : (p : Condition) → TestReads p → TestsRead p
 last_test p one = by_fuel read_tests tests_stops (condition_text p) p one.least (λ n fuel rest ends.
-  ap (λ (t : Read Condition). and_then t (more_tests n)) (one.back n fuel rest (stops_rest (after_blank 65) value_stops rest ends))
-  ∙ ap (λ (t : Bool). if t then and_then (read_tests n (drop 5 rest)) (λ q after. Some (both p q, after)) else Some (p, rest))
-  (stops_first (after_blank 65) value_stops rest ends))
+    ap (λ (t : Read Condition). and_then t (more_tests n)) (one.back n fuel rest (stops_rest (after_blank 65) value_stops rest ends))
+    ∙ ap (λ (t : Bool). if t then and_then (read_tests n (drop 5 rest)) (λ q after. Some (both p q, after)) else Some (p, rest))
+    (stops_first (after_blank 65) value_stops rest ends))
 
 tests_read : (p : Condition) → are_tests p ≡ true → TestsRead p
 tests_read (both p q) is =
@@ -113,10 +113,10 @@ tests_read (both p q) is =
     let one = test_reads p parts.0 in
     let rest_read = tests_read q parts.1 in
     by_fuel read_tests tests_stops (condition_text (both p q)) (both p q) (one.least + rest_read.least) (λ n fuel rest ends.
-      ap (read_tests (suc n)) (three_parts (condition_text p) (codes " AND ") (condition_text q) rest)
-      ∙ ap (λ (t : Read Condition). and_then t (more_tests n))
-      (one.back n (omega (arith, fuel)) (codes " AND " ++ (condition_text q ++ rest)) refl)
-      ∙ ap (λ (t : Read Condition). and_then t (λ r after. Some (both p r, after))) (rest_read.back n (omega (arith, fuel)) rest ends))
+    ap (read_tests (suc n)) (three_parts (condition_text p) (codes " AND ") (condition_text q) rest)
+    ∙ ap (λ (t : Read Condition). and_then t (more_tests n))
+    (one.back n (omega (arith, fuel)) (codes " AND " ++ (condition_text q ++ rest)) refl)
+    ∙ ap (λ (t : Read Condition). and_then t (λ r after. Some (both p r, after))) (rest_read.back n (omega (arith, fuel)) rest ends))
 tests_read p is = last_test p (test_reads p is)
 
 -- ---- conditions
@@ -129,9 +129,9 @@ more_either n p rest =
 
 last_tests : (p : Condition) → TestsRead p → ConditionReads p
 last_tests p one = by_fuel read_condition condition_stops (condition_text p) p one.least (λ n fuel rest ends.
-  ap (λ (t : Read Condition). and_then t (more_either n)) (one.back n fuel rest (stops_rest (after_blank 79) tests_stops rest ends))
-  ∙ ap (λ (t : Bool). if t then and_then (read_condition n (drop 4 rest)) (λ q after. Some (either p q, after)) else Some (p, rest))
-  (stops_first (after_blank 79) tests_stops rest ends))
+    ap (λ (t : Read Condition). and_then t (more_either n)) (one.back n fuel rest (stops_rest (after_blank 79) tests_stops rest ends))
+    ∙ ap (λ (t : Bool). if t then and_then (read_condition n (drop 4 rest)) (λ q after. Some (either p q, after)) else Some (p, rest))
+    (stops_first (after_blank 79) tests_stops rest ends))
 
 pub condition_reads : (p : Condition) → is_condition p ≡ true → ConditionReads p
 condition_reads (either p q) is =
@@ -139,8 +139,8 @@ condition_reads (either p q) is =
     let one = tests_read p parts.0 in
     let rest_read = condition_reads q parts.1 in
     by_fuel read_condition condition_stops (condition_text (either p q)) (either p q) (one.least + rest_read.least) (λ n fuel rest ends.
-      ap (read_condition (suc n)) (three_parts (condition_text p) (codes " OR ") (condition_text q) rest)
-      ∙ ap (λ (t : Read Condition). and_then t (more_either n))
-      (one.back n (omega (arith, fuel)) (codes " OR " ++ (condition_text q ++ rest)) refl)
-      ∙ ap (λ (t : Read Condition). and_then t (λ r after. Some (either p r, after))) (rest_read.back n (omega (arith, fuel)) rest ends))
+    ap (read_condition (suc n)) (three_parts (condition_text p) (codes " OR ") (condition_text q) rest)
+    ∙ ap (λ (t : Read Condition). and_then t (more_either n))
+    (one.back n (omega (arith, fuel)) (codes " OR " ++ (condition_text q ++ rest)) refl)
+    ∙ ap (λ (t : Read Condition). and_then t (λ r after. Some (either p r, after))) (rest_read.back n (omega (arith, fuel)) rest ends))
 condition_reads p is = last_tests p (tests_read p is)

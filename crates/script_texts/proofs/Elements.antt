@@ -1,5 +1,5 @@
 -- What a table is created with is read back from its text.
-use Rattle.std.proofs.Common.{◌≡◌, ◌≤◌, ◌+◌, ◌-◌, ◌⊎◌, ◌&&◌, ℕ, zero, suc, Bool, true, false, not, Some, None, List, [], ◌∷◌, ◌++◌, length, take, drop, refl, sym, ap, ◌∙◌, inl, inr, arith, append_assoc, append-nil, length-append, take_at, drop_at}
+use Rattle.std.proofs.Common.{◌≡◌, ◌≤◌, ◌+◌, ◌-◌, ◌⊎◌, ℕ, zero, suc, Bool, true, false, not, Some, None, List, [], ◌∷◌, ◌++◌, length, take, drop, refl, sym, ap, ◌∙◌, inl, inr, arith, append_assoc, append-nil, length-append, take_at, drop_at}
 use Rattle.std.specs.Prelude.{◌==◌, if◌then◌else◌, codes}
 use Rattle.std.specs.Char.{is_ascii_lowercase}
 use Rattle.std.specs.List.{list_all}
@@ -58,7 +58,7 @@ abbrev read_more_elements : ℕ → List ℕ → Read (List Element)
 read_more_elements zero text = None
 read_more_elements (suc n) text =
     if head text == 44 then
-      and_then (read_element n (drop 4 text)) (λ e rest. and_then (read_more_elements n rest) (λ es after. Some (e ∷ es, after)))
+    and_then (read_element n (drop 4 text)) (λ e rest. and_then (read_more_elements n rest) (λ es after. Some (e ∷ es, after)))
     else Some ([], text)
 
 abbrev pub read_elements : ℕ → List ℕ → Read (List Element)
@@ -226,10 +226,10 @@ lines_read (e ∷ es) each =
     let one = element_reads e each.0 in
     let others = lines_read es each.1 in
     lines_by_fuel (e ∷ es) (one.least + others.least) (λ n fuel rest.
-      let tail = element_lines true es ++ closing rest in
-      ap (λ (t : List ℕ). and_then (read_element n t) (then_more n)) (append_assoc (element_text e) (element_lines true es) (closing rest))
-      ∙ ap (λ (t : Read Element). and_then t (then_more n)) (one.back n (omega (arith, fuel)) tail (lines_end es rest))
-      ∙ ap (λ (t : Read (List Element)). and_then t (λ found after. Some (e ∷ found, after))) (others.back n (omega (arith, fuel)) rest))
+    let tail = element_lines true es ++ closing rest in
+    ap (λ (t : List ℕ). and_then (read_element n t) (then_more n)) (append_assoc (element_text e) (element_lines true es) (closing rest))
+    ∙ ap (λ (t : Read Element). and_then t (then_more n)) (one.back n (omega (arith, fuel)) tail (lines_end es rest))
+    ∙ ap (λ (t : Read (List Element)). and_then t (λ found after. Some (e ∷ found, after))) (others.back n (omega (arith, fuel)) rest))
 
 pub record ElementsRead (es : List Element) : Type 0 where
   pub least : ℕ

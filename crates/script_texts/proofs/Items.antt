@@ -1,18 +1,18 @@
 -- What is selected is read back from its text, and so are lists of values and of names.
-use Rattle.std.proofs.Common.{◌≡◌, ◌<◌, ◌≤◌, ◌+◌, ◌||◌, ◌&&◌, ℕ, zero, suc, Bool, true, false, not, Some, None, List, [], ◌∷◌, ◌++◌, length, drop, refl, sym, ap, ◌∙◌, arith, append_assoc}
+use Rattle.std.proofs.Common.{◌≡◌, ◌≤◌, ◌+◌, ◌||◌, ◌&&◌, ℕ, Bool, true, false, not, Some, List, [], ◌∷◌, ◌++◌, length, drop, refl, sym, ap, ◌∙◌, arith, append_assoc}
 use Rattle.std.specs.Prelude.{◌==◌, if◌then◌else◌, codes}
 use Rattle.std.specs.Char.{is_ascii_digit, is_ascii_lowercase}
 use Rattle.std.specs.List.{flat_map, list_all}
-use Rattle.std.proofs.lemmas.Bool.{and_parts, or_left, or_right, true≢false}
+use Rattle.std.proofs.lemmas.Bool.{and_parts, true≢false}
 use Rattle.std.proofs.lemmas.Bool.Decides.{nat_tests}
 use Rattle.sql_syntax.specs.Names.{comma_list}
 use Rattle.sql_syntax.specs.Printing.{column_text, name_text, names_text, scalar_text, item_text}
-use Rattle.sql_syntax.specs.Syntax.{ColumnName, attribute, helper, Column, Scalar, column, as_text, as_integer, with_empty_text, written_number, missing_value, count, sum, greatest, sum_product, less_sum, Item, own, named, unnamed}
-use Rattle.script_texts.specs.Queries.{is_column_name, is_column, is_number, is_cast, is_sum, is_scalar, is_column_value, is_item}
-use Rattle.script_texts.proofs.Follows.{head, after_blank, mark, next, stops, stops_first, stops_rest, stops_parted, three_parts, four_parts, Read, and_then}
+use Rattle.sql_syntax.specs.Syntax.{ColumnName, attribute, helper, Column, Scalar, column, as_text, as_integer, with_empty_text, number_zero, number_one, written_number, missing_value, count, sum, greatest, sum_product, less_sum, Item, own, named, unnamed}
+use Rattle.script_texts.specs.Queries.{is_column_name, is_column, is_cast, is_sum, is_scalar, is_column_value, is_item}
+use Rattle.script_texts.proofs.Follows.{head, after_blank, mark, next, stops_first, stops_rest, stops_parted, three_parts, four_parts, Read, and_then}
 use Rattle.script_texts.proofs.Names.{read_name, name_reads, bare_head, read_column, column_head, column_reads}
 use Rattle.script_texts.proofs.Lists.{Each, ReadsBack, Between, read_list, list_reads, Reads, EachReads, none_reads, more_read}
-use Rattle.script_texts.proofs.Scalars.{value_stops, read_scalar, number_head, ScalarReads, scalar_reads}
+use Rattle.script_texts.proofs.Scalars.{value_stops, read_scalar, number_head, scalar_reads}
 use Rattle.script_texts.proofs.Conditions.{tests_stops}
 
 -- ---- lists with commas
@@ -42,6 +42,8 @@ scalar_begins (as_integer x) rest is = refl
 scalar_begins (with_empty_text x) rest is =
     ap (λ (t : List ℕ). begins_value (head t)) (append_assoc (scalar_text x) (codes " || ''") rest)
     ∙ scalar_begins x (codes " || ''" ++ rest) (and_parts (is_cast x) (is_scalar x) is).1
+scalar_begins number_zero rest is = refl
+scalar_begins number_one rest is = refl
 scalar_begins (written_number n) rest is = digit_begins (head (scalar_text (written_number n) ++ rest)) (number_head n rest is)
 scalar_begins missing_value rest is = refl
 scalar_begins count rest is = refl

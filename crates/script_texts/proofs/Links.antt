@@ -1,12 +1,12 @@
 -- Tables that are joined are read back from their texts.
-use Rattle.std.proofs.Common.{◌≡◌, ◌<◌, ◌≤◌, ◌+◌, ◌||◌, ℕ, zero, suc, Bool, true, false, Some, None, List, [], ◌∷◌, ◌++◌, length, drop, refl, ap, ◌∙◌, arith, append_assoc}
-use Rattle.std.specs.Prelude.{◌==◌, if◌then◌else◌, All, IsTrue, codes}
+use Rattle.std.proofs.Common.{◌≡◌, ◌≤◌, ◌+◌, ◌||◌, ℕ, zero, suc, Bool, true, false, Some, None, List, [], ◌∷◌, ◌++◌, length, drop, refl, ap, ◌∙◌, arith, append_assoc}
+use Rattle.std.specs.Prelude.{◌==◌, if◌then◌else◌, All, codes}
 use Rattle.std.specs.List.{flat_map, list_all}
 use Rattle.sql_syntax.specs.Printing.{names_text, link_text}
 use Rattle.sql_syntax.specs.Syntax.{ColumnName, Link, by_columns, left_by_columns, crosswise}
 use Rattle.script_texts.specs.Queries.{is_column_name, IsTableName, IsLink}
 use Rattle.script_texts.proofs.Follows.{after_blank, next, stops, stops_first, stops_some, four_parts, Read, and_then}
-use Rattle.script_texts.proofs.Lists.{Each, ReadsBack, Reads, by_fuel, dot, read_table, table_reads}
+use Rattle.script_texts.proofs.Lists.{Each, Reads, by_fuel, dot, read_table, table_reads}
 use Rattle.script_texts.proofs.Items.{read_names, names_read}
 
 -- what holds of all members holds of each
@@ -37,7 +37,7 @@ abbrev pub read_links : ℕ → List ℕ → Read (List Link)
 read_links zero text = None
 read_links (suc n) text =
     if is_joined text then
-      and_then (read_link n text) (λ l rest. and_then (read_links n rest) (λ ls after. Some (l ∷ ls, after)))
+    and_then (read_link n text) (λ l rest. and_then (read_links n rest) (λ ls after. Some (l ∷ ls, after)))
     else Some ([], text)
 
 -- ---- one table
@@ -102,15 +102,15 @@ LinksRead ls = Reads (List Link) read_links links_stops (flat_map link_text ls) 
 
 pub links_read : (ls : List Link) → Each IsLink ls → LinksRead ls
 links_read [] each = by_fuel read_links links_stops [] [] 0 (λ n fuel rest ends.
-  ap (λ (t : Bool). if t then and_then (read_link n rest) (λ l later. and_then (read_links n later) (λ ls after. Some (l ∷ ls, after)))
-  else Some ([], rest)) (none_joined rest ends))
+    ap (λ (t : Bool). if t then and_then (read_link n rest) (λ l later. and_then (read_links n later) (λ ls after. Some (l ∷ ls, after)))
+    else Some ([], rest)) (none_joined rest ends))
 links_read (l ∷ ls) each =
     let one = link_reads l each.0 in
     let others = links_read ls each.1 in
     by_fuel read_links links_stops (flat_map link_text (l ∷ ls)) (l ∷ ls) (one.least + others.least) (λ n fuel rest ends.
-      let tail = flat_map link_text ls ++ rest in
-      let go = λ (m : Link) (later : List ℕ). and_then (read_links n later) (λ ms after. Some (m ∷ ms, after)) in
-      ap (read_links (suc n)) (append_assoc (link_text l) (flat_map link_text ls) rest)
-      ∙ ap (λ (t : Bool). if t then and_then (read_link n (link_text l ++ tail)) go else Some ([], link_text l ++ tail)) (joined_begins l tail)
-      ∙ ap (λ (t : Read Link). and_then t go) (one.back n (omega (arith, fuel)) tail (links_after ls rest ends))
-      ∙ ap (λ (t : Read (List Link)). and_then t (λ ms after. Some (l ∷ ms, after))) (others.back n (omega (arith, fuel)) rest ends))
+    let tail = flat_map link_text ls ++ rest in
+    let go = λ (m : Link) (later : List ℕ). and_then (read_links n later) (λ ms after. Some (m ∷ ms, after)) in
+    ap (read_links (suc n)) (append_assoc (link_text l) (flat_map link_text ls) rest)
+    ∙ ap (λ (t : Bool). if t then and_then (read_link n (link_text l ++ tail)) go else Some ([], link_text l ++ tail)) (joined_begins l tail)
+    ∙ ap (λ (t : Read Link). and_then t go) (one.back n (omega (arith, fuel)) tail (links_after ls rest ends))
+    ∙ ap (λ (t : Read (List Link)). and_then t (λ ms after. Some (l ∷ ms, after))) (others.back n (omega (arith, fuel)) rest ends))

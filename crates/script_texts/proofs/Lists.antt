@@ -1,11 +1,11 @@
 -- Lists with something between two are read back from their texts, and so are names of tables.
-use Rattle.std.proofs.Common.{◌≡◌, ◌<◌, ◌≤◌, ◌+◌, ℕ, zero, suc, Bool, true, false, Option, Some, None, List, [], ◌∷◌, ◌++◌, length, drop, refl, sym, ap, ◌∙◌, arith, append_assoc}
+use Rattle.std.proofs.Common.{◌≡◌, ◌<◌, ◌≤◌, ◌+◌, ℕ, zero, suc, Bool, true, Some, None, List, [], ◌∷◌, ◌++◌, length, drop, refl, sym, ap, ◌∙◌, arith, append_assoc}
 use Rattle.std.specs.Prelude.{◌==◌, if◌then◌else◌, codes}
 use Rattle.std.specs.List.{flat_map, join_by}
-use Rattle.std.proofs.lemmas.Bool.{eq-eqb, true≢false}
+use Rattle.std.proofs.lemmas.Bool.{eq-eqb}
 use Rattle.schema_model.specs.Names.{quoted}
 use Rattle.script_texts.specs.Queries.{IsTableName}
-use Rattle.script_texts.proofs.Follows.{head, after_blank, mark, next, is_parted, stops, stops_first, stops_rest, stops_parted, Read, and_then}
+use Rattle.script_texts.proofs.Follows.{head, mark, next, stops, stops_first, stops_rest, stops_parted, Read, and_then}
 use Rattle.script_texts.proofs.Names.{read_quoted, quoted_reads, parted_parts}
 
 -- it is so of each member
@@ -28,8 +28,8 @@ abbrev pub read_more : {X : Type 0} → (List ℕ → Read X) → ℕ → ℕ �
 read_more read mark_of width zero text = None
 read_more read mark_of width (suc n) text =
     if next text == mark_of then
-      and_then (read (drop width text))
-      (λ x rest. and_then (read_more read mark_of width n rest) (λ xs after. Some (x ∷ xs, after)))
+    and_then (read (drop width text))
+    (λ x rest. and_then (read_more read mark_of width n rest) (λ xs after. Some (x ∷ xs, after)))
     else Some ([], text)
 
 abbrev pub read_list : {X : Type 0} → (List ℕ → Read X) → ℕ → ℕ → ℕ → List ℕ → Read (List X)

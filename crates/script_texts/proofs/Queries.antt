@@ -1,19 +1,19 @@
 -- Queries are read back from their texts.
 use Rattle.std.proofs.Common.{◌≡◌, ◌<◌, ◌≤◌, ◌+◌, ◌&&◌, ℕ, zero, suc, Bool, true, false, not, Some, None, List, [], ◌∷◌, ◌++◌, length, map, drop, refl, sym, ap, subst, ◌∙◌, inl, inr, arith, append_assoc, ◌-◌}
-use Rattle.std.specs.Prelude.{◌==◌, if◌then◌else◌, IsTrue, codes}
+use Rattle.std.specs.Prelude.{◌==◌, if◌then◌else◌, codes}
 use Rattle.std.specs.List.{flat_map, list_all}
 use Rattle.std.proofs.lemmas.Bool.{and_from, and_parts, cases_Bool, eqb-true, true≢false}
 use Rattle.std.proofs.lemmas.Bool.Decides.{nat_tests}
 use Rattle.sql_syntax.specs.Names.{comma_list, is_not_empty}
 use Rattle.sql_syntax.specs.Printing.{name_text, names_text, scalar_text, item_text, clause_text, link_text, joined_text, distinct_text, selected_text, text_at}
-use Rattle.sql_syntax.specs.Syntax.{ColumnName, attribute, helper, Scalar, column, written_number, missing_value, Item, own, named, unnamed, Clause, Link, Query, stored, select, union_all, except, joined, all_columns, one_row}
+use Rattle.sql_syntax.specs.Syntax.{ColumnName, attribute, helper, Scalar, column, number_zero, number_one, written_number, missing_value, Item, own, named, unnamed, Clause, Link, Query, stored, select, union_all, except, joined, all_columns, one_row}
 use Rattle.sql_syntax.proofs.ListLemmas.{comma_list-map}
-use Rattle.script_texts.specs.Queries.{is_bare, is_column_name, is_user_name, IsTableName, is_number, is_scalar, is_column_value, is_constant, is_item, is_clause, IsLink, is_compound, IsQueryAt}
-use Rattle.script_texts.proofs.Follows.{head, after_blank, mark, next, is_parted, stops, stops_first, stops_rest, stops_parted, stops_some, three_parts, Read, and_then}
+use Rattle.script_texts.specs.Queries.{is_bare, is_column_name, is_user_name, IsTableName, is_number, is_constant, is_item, is_clause, IsLink, is_compound, IsQueryAt}
+use Rattle.script_texts.proofs.Follows.{head, after_blank, mark, next, stops, stops_first, stops_rest, stops_parted, stops_some, three_parts, Read, and_then}
 use Rattle.script_texts.proofs.Names.{read_bare, bare_reads, read_name}
 use Rattle.script_texts.proofs.Lists.{ReadsBack, read_list, list_reads, Reads, by_fuel, dot, read_table, table_reads}
 use Rattle.script_texts.proofs.Items.{comma, begins_value, item_begins, read_items, items_stops, items_read, each_name_reads, name_commas}
-use Rattle.script_texts.proofs.Clauses.{clause_stops, read_clause, ClauseReads, clause_reads, clause_parted}
+use Rattle.script_texts.proofs.Clauses.{clause_stops, read_clause, clause_reads, clause_parted}
 use Rattle.script_texts.proofs.Links.{each_of_all, links_stops, read_links, LinksRead, links_read, links_after}
 
 -- what no query goes on with, and what a query that is no compound does not
@@ -204,10 +204,10 @@ select_reads distinct items source alias clause are from bare is =
     let after = clause_reads items clause is in
     by_fuel read_single single_stops (text_at false (select distinct items source alias clause))
     (select distinct items source alias clause) (listed.least + from.least + after.least) (λ n fuel rest ends.
-      let tail = text_at true source ++ (codes " AS " ++ (alias ++ (clause_text clause ++ rest))) in
-      ap (read_single (suc n)) (selected_parts distinct (comma_list item_text items) (text_at true source) alias (clause_text clause) rest)
-      ∙ distinct_on n distinct items tail are (listed.back n (omega (arith, fuel)) tail)
-      ∙ from_on distinct items source alias clause n rest bare (from.back n (omega (arith, fuel))) (after.back n (omega (arith, fuel))) ends)
+    let tail = text_at true source ++ (codes " AS " ++ (alias ++ (clause_text clause ++ rest))) in
+    ap (read_single (suc n)) (selected_parts distinct (comma_list item_text items) (text_at true source) alias (clause_text clause) rest)
+    ∙ distinct_on n distinct items tail are (listed.back n (omega (arith, fuel)) tail)
+    ∙ from_on distinct items source alias clause n rest bare (from.back n (omega (arith, fuel))) (after.back n (omega (arith, fuel))) ends)
 
 -- ---- SELECT * FROM
 star_parts : (source alias rest : List ℕ)
@@ -217,13 +217,15 @@ star_parts source alias rest = simp append_assoc
 all_reads : (source : Query) (alias : List ℕ) → SourceReads source → is_bare alias ≡ true → SingleReads (all_columns source alias)
 all_reads source alias from bare =
     by_fuel read_single single_stops (text_at false (all_columns source alias)) (all_columns source alias) from.least (λ n fuel rest ends.
-      ap (read_single (suc n)) (star_parts (text_at true source) alias rest)
-      ∙ ap (λ (t : Read Query). and_then t all_of) (from.back n fuel (codes " AS " ++ (alias ++ rest)) refl)
-      ∙ ap (λ (t : Read (List ℕ)). and_then t (λ found after. Some (all_columns source found, after)))
-      (bare_reads alias rest bare (stops_parted single_stops rest ends)))
+    ap (read_single (suc n)) (star_parts (text_at true source) alias rest)
+    ∙ ap (λ (t : Read Query). and_then t all_of) (from.back n fuel (codes " AS " ++ (alias ++ rest)) refl)
+    ∙ ap (λ (t : Read (List ℕ)). and_then t (λ found after. Some (all_columns source found, after)))
+    (bare_reads alias rest bare (stops_parted single_stops rest ends)))
 
 -- ---- SELECT of values
 constant_item : (x : Scalar) → is_constant x ≡ true → is_item (unnamed x) ≡ true
+constant_item number_zero is = refl
+constant_item number_one is = refl
 constant_item (written_number n) is = and_from (is_number n) true is refl
 constant_item missing_value is = refl
 constant_item x is = absurd (true≢false (sym is))
@@ -268,8 +270,8 @@ row_reads (x ∷ values) are =
     let items = constants_items (x ∷ values) are in
     let listed = items_read (unnamed x) (map unnamed values) items in
     by_fuel read_single single_stops (text_at false (one_row (x ∷ values))) (one_row (x ∷ values)) listed.least (λ n fuel rest ends.
-      ap (λ (t : List ℕ). selected_by (read_single n) n (t ++ rest)) (sym (comma_list-map item_text unnamed (x ∷ values)))
-      ∙ row_on n x values rest items (listed.back n fuel) ends)
+    ap (λ (t : List ℕ). selected_by (read_single n) n (t ++ rest)) (sym (comma_list-map item_text unnamed (x ∷ values)))
+    ∙ row_on n x values rest items (listed.back n fuel) ends)
 
 -- ---- tables that are joined
 user_is_name : (name : ColumnName) → is_user_name name ≡ true → is_column_name name ≡ true
@@ -294,21 +296,21 @@ joined_reads (name ∷ names) first links are table others =
     let after = flat_map (λ (other : ColumnName). codes ", " ++ name_text other) names in
     by_fuel read_single single_stops (text_at false (joined (name ∷ names) first links)) (joined (name ∷ names) first links)
     (length names + 1 + length table.0 + others.least) (λ n fuel rest ends.
-      let linked = flat_map link_text links ++ rest in
-      let tail = codes " FROM " ++ (first ++ linked) in
-      let ended = stops_some single_stops links_stops rest refl ends in
-      let with_links = λ (found : List ColumnName) (name_of later : List ℕ). and_then (read_links n later) (λ ls last. Some (joined found name_of ls, last)) in
-      ap (read_single (suc n)) (joined_parts (names_text (name ∷ names)) first (flat_map link_text links) rest)
-      ∙ ap (selected_by (read_single n) n) (append_assoc (name_text name) after tail)
-      ∙ joined_begin n name (after ++ tail) (and_parts (is_user_name name) (list_all is_user_name names) are).0
-      ∙ ap (read_joined n) (sym (append_assoc (name_text name) after tail))
-      ∙ ap (λ (t : Read (List ColumnName)). and_then t (λ found later. and_then (read_table n (drop 6 later)) (with_links found)))
-      (list_reads ColumnName read_name name_text comma 2 [] (codes ", ") name_commas name names n tail (omega (arith, fuel))
-      (each_name_reads (name ∷ names) (users_are_names (name ∷ names) are)) refl)
-      ∙ ap (λ (t : Read (List ℕ)). and_then t (with_links (name ∷ names)))
-      (table_reads first table n linked (omega (arith, fuel)) (links_after links rest ended))
-      ∙ ap (λ (t : Read (List Link)). and_then t (λ ls last. Some (joined (name ∷ names) first ls, last)))
-      (others.back n (omega (arith, fuel)) rest ended))
+    let linked = flat_map link_text links ++ rest in
+    let tail = codes " FROM " ++ (first ++ linked) in
+    let ended = stops_some single_stops links_stops rest refl ends in
+    let with_links = λ (found : List ColumnName) (name_of later : List ℕ). and_then (read_links n later) (λ ls last. Some (joined found name_of ls, last)) in
+    ap (read_single (suc n)) (joined_parts (names_text (name ∷ names)) first (flat_map link_text links) rest)
+    ∙ ap (selected_by (read_single n) n) (append_assoc (name_text name) after tail)
+    ∙ joined_begin n name (after ++ tail) (and_parts (is_user_name name) (list_all is_user_name names) are).0
+    ∙ ap (read_joined n) (sym (append_assoc (name_text name) after tail))
+    ∙ ap (λ (t : Read (List ColumnName)). and_then t (λ found later. and_then (read_table n (drop 6 later)) (with_links found)))
+    (list_reads ColumnName read_name name_text comma 2 [] (codes ", ") name_commas name names n tail (omega (arith, fuel))
+    (each_name_reads (name ∷ names) (users_are_names (name ∷ names) are)) refl)
+    ∙ ap (λ (t : Read (List ℕ)). and_then t (with_links (name ∷ names)))
+    (table_reads first table n linked (omega (arith, fuel)) (links_after links rest ended))
+    ∙ ap (λ (t : Read (List Link)). and_then t (λ ls last. Some (joined (name ∷ names) first ls, last)))
+    (others.back n (omega (arith, fuel)) rest ended))
 
 -- ---- compounds
 abbrev count_of : Query → ℕ

@@ -1,17 +1,17 @@
 -- Values are read back from their texts.
-use Rattle.std.proofs.Common.{◌≡◌, ◌<◌, ◌≤◌, ◌^◌, ℕ, zero, suc, Bool, true, false, not, ◌&&◌, Option, Some, None, List, [], ◌∷◌, ◌++◌, length, drop, refl, sym, ap, ◌∙◌, arith, append_assoc}
-use Rattle.std.specs.Prelude.{◌==◌, if◌then◌else◌, codes, decimal}
+use Rattle.std.proofs.Common.{◌≡◌, ◌<◌, ◌^◌, ℕ, zero, suc, Bool, true, false, ◌&&◌, Some, None, List, [], ◌∷◌, ◌++◌, length, drop, refl, sym, ap, ◌∙◌, arith, append_assoc}
+use Rattle.std.specs.Prelude.{◌==◌, if◌then◌else◌, codes, decimal, nat_lt}
 use Rattle.std.specs.Char.{is_ascii_digit, is_ascii_lowercase}
 use Rattle.std.specs.List.{list_all}
 use Rattle.std.specs.Str.Parse.{digits_value}
-use Rattle.std.proofs.lemmas.Bool.{and_parts, ltb-true, not-true, true≢false}
+use Rattle.std.proofs.lemmas.Bool.{and_parts, ltb-true, true≢false}
 use Rattle.std.proofs.lemmas.Bool.Decides.{nat_tests}
-use Rattle.std.proofs.lemmas.Fmt.{decimal_nonempty, digits_decimal, digits_value-decimal}
+use Rattle.std.proofs.lemmas.Fmt.{decimal_digit, decimal_nonempty, digits_decimal, digits_value-decimal}
 use Rattle.schema_model.proofs.NumeralLemmas.{decimal_numeral_model}
 use Rattle.sql_syntax.specs.Printing.{column_text, scalar_text}
-use Rattle.sql_syntax.specs.Syntax.{Column, Scalar, column, as_text, as_integer, with_empty_text, written_number, missing_value, count, sum, greatest, sum_product, less_sum}
+use Rattle.sql_syntax.specs.Syntax.{Column, Scalar, column, as_text, as_integer, with_empty_text, number_zero, number_one, written_number, missing_value, count, sum, greatest, sum_product, less_sum}
 use Rattle.script_texts.specs.Queries.{is_bare_byte, is_column, is_number, is_cast, is_sum, is_scalar}
-use Rattle.script_texts.proofs.Follows.{head, after_blank, next, is_parted, stops, stops_first, stops_rest, stops_parted, four_parts, Read, and_then, read_while, while_reads}
+use Rattle.script_texts.proofs.Follows.{head, after_blank, next, stops, stops_first, stops_rest, stops_parted, four_parts, Read, and_then, read_while, while_reads}
 use Rattle.script_texts.proofs.Names.{read_column, column_reads, column_head, parted_parts}
 use Rattle.script_texts.proofs.Lists.{ReadsBack, Reads, by_fuel}
 
@@ -36,7 +36,7 @@ less x text =
 abbrev times : Column → List ℕ → Read Scalar
 times c text =
     if next text == after_blank 42 then
-      and_then (read_column (drop 7 text)) (λ d rest. less (sum_product c d) (drop 1 rest))
+    and_then (read_column (drop 7 text)) (λ d rest. less (sum_product c d) (drop 1 rest))
     else less (sum c) text
 
 abbrev read_word : (List ℕ → Read Scalar) → List ℕ → Read Scalar
@@ -47,8 +47,11 @@ read_word read text =
     else if head (drop 1 text) == 65 then and_then (read (drop 5 text)) cast_to
     else Some (count, drop 8 text)
 
+abbrev number_of : ℕ → Scalar
+number_of n = if n == 0 then number_zero else if n == 1 then number_one else written_number n
+
 abbrev read_number : List ℕ → Read Scalar
-read_number text = and_then (read_while is_ascii_digit text) (λ digits rest. Some (written_number (digits_value 10 digits), rest))
+read_number text = and_then (read_while is_ascii_digit text) (λ digits rest. Some (number_of (digits_value 10 digits), rest))
 
 abbrev read_own : List ℕ → Read Scalar
 read_own text = and_then (read_column text) (λ c rest. Some (column c, rest))
@@ -83,24 +86,49 @@ digit_is_not_small b is = grind (arith, nat_tests, is)
 not_bare_no_digit : (b : ℕ) → is_bare_byte b ≡ false → is_ascii_digit b ≡ false
 not_bare_no_digit b is = grind (arith, nat_tests, is)
 
-pub number_head : (n : ℕ) (rest : List ℕ) → is_number n ≡ true → is_ascii_digit (head (decimal n ++ rest)) ≡ true
-number_head n rest is =
-    let small = ltb-true n (2 ^ 64) is in
-    digit_head (decimal n) rest (decimal_nonempty n small) (digits_decimal decimal_numeral_model n small)
+small_number : (n : ℕ) → is_number n ≡ true → n < 2 ^ 64
+small_number n is = ltb-true n (2 ^ 64) (and_parts (nat_lt 1 n) (nat_lt n (2 ^ 64)) is).1
 
-number_back : (m n : ℕ) → is_number n ≡ true → Back (suc m) (written_number n)
-number_back m n is rest ends =
-    let small = ltb-true n (2 ^ 64) is in
+-- the digits of a number are read as the number
+digits_back : (m n : ℕ) (rest : List ℕ) → n < 2 ^ 64 → stops value_stops rest ≡ true
+    → read_scalar (suc m) (decimal n ++ rest) ≡ Some (number_of n, rest)
+digits_back m n rest small ends =
     let digits = digits_decimal decimal_numeral_model n small in
     let text = decimal n ++ rest in
-    let first = number_head n rest is in
+    let first = digit_head (decimal n) rest (decimal_nonempty n small) digits in
     let no_digit = not_bare_no_digit (head rest) (parted_parts rest (stops_parted value_stops rest ends)).0 in
     ap (λ (own : Bool). if own then read_own text else if is_ascii_digit (head text) then read_number text else read_word (read_scalar m) text)
     (digit_is_not_small (head text) first)
     ∙ ap (λ (digit : Bool). if digit then read_number text else read_word (read_scalar m) text) first
-    ∙ ap (λ (t : Read (List ℕ)). and_then t (λ found after. Some (written_number (digits_value 10 found), after)))
+    ∙ ap (λ (t : Read (List ℕ)). and_then t (λ found after. Some (number_of (digits_value 10 found), after)))
     (while_reads is_ascii_digit (decimal n) rest digits no_digit)
-    ∙ ap (λ (k : ℕ). Some (written_number k, rest)) (digits_value-decimal decimal_numeral_model n small)
+    ∙ ap (λ (k : ℕ). Some (number_of k, rest)) (digits_value-decimal decimal_numeral_model n small)
+
+zero_back : (m : ℕ) → Back (suc m) number_zero
+zero_back m rest ends =
+    let digit : decimal 0 ≡ 48 ∷ [] = decimal_digit 0 (omega arith) in
+    ap (λ (t : List ℕ). read_scalar (suc m) (t ++ rest)) (sym digit) ∙ digits_back m 0 rest (omega arith) ends
+
+one_back : (m : ℕ) → Back (suc m) number_one
+one_back m rest ends =
+    let digit : decimal 1 ≡ 49 ∷ [] = decimal_digit 1 (omega arith) in
+    ap (λ (t : List ℕ). read_scalar (suc m) (t ++ rest)) (sym digit) ∙ digits_back m 1 rest (omega arith) ends
+
+number_is : (n : ℕ) → is_number n ≡ true → number_of n ≡ written_number n
+number_is n is =
+    let more = ltb-true 1 n (and_parts (nat_lt 1 n) (nat_lt n (2 ^ 64)) is).0 in
+    let not_zero : (n == 0) ≡ false = grind (arith, nat_tests, more) in
+    let not_one : (n == 1) ≡ false = grind (arith, nat_tests, more) in
+    rw not_zero (rw not_one refl)
+
+number_back : (m n : ℕ) → is_number n ≡ true → Back (suc m) (written_number n)
+number_back m n is rest ends =
+    digits_back m n rest (small_number n is) ends ∙ ap (λ (x : Scalar). Some (x, rest)) (number_is n is)
+
+pub number_head : (n : ℕ) (rest : List ℕ) → is_number n ≡ true → is_ascii_digit (head (decimal n ++ rest)) ≡ true
+number_head n rest is =
+    let small = small_number n is in
+    digit_head (decimal n) rest (decimal_nonempty n small) (digits_decimal decimal_numeral_model n small)
 
 -- ---- casts
 cast_text : (n : ℕ) (x : Scalar) (rest : List ℕ) → Back n x
@@ -230,6 +258,8 @@ scalar_reads (with_empty_text (as_text x)) is =
 scalar_reads (with_empty_text (as_integer x)) is =
     within x (with_empty_text (as_integer x)) (λ n. empty_after_integer n x) (scalar_reads x is)
 scalar_reads (with_empty_text x) is = absurd (true≢false (sym (and_parts (is_cast x) (is_scalar x) is).0))
+scalar_reads number_zero is = without_fuel number_zero zero_back
+scalar_reads number_one is = without_fuel number_one one_back
 scalar_reads (written_number n) is = without_fuel (written_number n) (λ m. number_back m n is)
 scalar_reads missing_value is = without_fuel missing_value (λ n rest ends. refl)
 scalar_reads count is = without_fuel count (λ n rest ends. refl)

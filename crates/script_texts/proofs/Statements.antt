@@ -1,7 +1,7 @@
 -- Statements are read back from their texts, and so are scripts: so a text has one script.
-use Rattle.std.proofs.Common.{◌≡◌, ◌≤◌, ◌+◌, ◌*◌, ℕ, zero, suc, Bool, true, false, not, ◌&&◌, Some, None, List, [], ◌∷◌, ◌++◌, length, drop, refl, sym, ap, ◌∙◌, arith, append_assoc, append-nil}
-use Rattle.std.specs.Prelude.{◌==◌, if◌then◌else◌, IsTrue, codes}
-use Rattle.std.specs.List.{flat_map, list_all}
+use Rattle.std.proofs.Common.{◌≡◌, ◌≤◌, ◌+◌, ℕ, zero, suc, Bool, true, false, not, ◌&&◌, Some, None, List, [], ◌∷◌, ◌++◌, length, drop, refl, sym, ap, ◌∙◌, arith, append_assoc}
+use Rattle.std.specs.Prelude.{◌==◌, if◌then◌else◌, codes}
+use Rattle.std.specs.List.{list_all}
 use Rattle.std.proofs.lemmas.Bool.{true≢false}
 use Rattle.sql_syntax.specs.Printing.{name_text, names_text, joined_text, selected_text, text_at, query_text}
 use Rattle.sql_syntax.specs.Syntax.{ColumnName, Query, stored, select, union_all, except, joined, all_columns, one_row}
@@ -43,8 +43,8 @@ read_create n text =
 abbrev rows_into : ℕ → ℕ → List ℕ → List ℕ → Read Statement
 rows_into first n name text =
     if first == 40 then
-      and_then (read_names n (drop 1 text))
-      (λ columns rest. and_then (read_query n (drop 2 rest)) (λ q after. Some (insert_into name columns q, drop 2 after)))
+    and_then (read_names n (drop 1 text))
+    (λ columns rest. and_then (read_query n (drop 2 rest)) (λ q after. Some (insert_into name columns q, drop 2 after)))
     else and_then (read_query n text) (λ q after. Some (insert_all name q, drop 2 after))
 
 abbrev inserted : ℕ → List ℕ → List ℕ → Read Statement
@@ -275,12 +275,12 @@ script_reads (x ∷ script) each =
     let one = statement_reads x each.0 in
     let others = script_reads script each.1 in
     script_by_fuel (x ∷ script) (one.least + others.least) (λ n fuel.
-      let rest = script_text script in
-      let text = statement_text x ++ rest in
-      let go = λ (y : Statement) (later : List ℕ). and_then (read_script n later) (λ ys after. Some (y ∷ ys, after)) in
-      ap (λ (t : Bool). if t then Some ([], text) else and_then (read_statement n text) go) (begins_something x rest each.0)
-      ∙ ap (λ (t : Read Statement). and_then t go) (one.back n (omega (arith, fuel)) rest)
-      ∙ ap (λ (t : Read (List Statement)). and_then t (λ ys after. Some (x ∷ ys, after))) (others.back n (omega (arith, fuel))))
+    let rest = script_text script in
+    let text = statement_text x ++ rest in
+    let go = λ (y : Statement) (later : List ℕ). and_then (read_script n later) (λ ys after. Some (y ∷ ys, after)) in
+    ap (λ (t : Bool). if t then Some ([], text) else and_then (read_statement n text) go) (begins_something x rest each.0)
+    ∙ ap (λ (t : Read Statement). and_then t go) (one.back n (omega (arith, fuel)) rest)
+    ∙ ap (λ (t : Read (List Statement)). and_then t (λ ys after. Some (x ∷ ys, after))) (others.back n (omega (arith, fuel))))
 
 -- ---- one script
 abbrev script_of : Read (List Statement) → List Statement

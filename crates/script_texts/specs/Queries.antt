@@ -5,7 +5,7 @@ use Rattle.std.specs.Char.{is_ascii_digit, is_ascii_lowercase}
 use Rattle.std.specs.List.{join_by, list_all, list_any}
 use Rattle.schema_model.specs.Names.{quoted}
 use Rattle.sql_syntax.specs.Names.{is_not_empty}
-use Rattle.sql_syntax.specs.Syntax.{ColumnName, attribute, helper, Column, Scalar, column, as_text, as_integer, with_empty_text, written_number, missing_value, count, sum, greatest, sum_product, less_sum, Condition, is_missing, is_present, differs, equals, exceeds, either, both, Item, own, named, unnamed, Clause, each_row, rows_where, group_where, groups_by, Link, by_columns, left_by_columns, crosswise, Query, stored, select, union_all, except, joined, all_columns, one_row}
+use Rattle.sql_syntax.specs.Syntax.{ColumnName, attribute, helper, Column, Scalar, column, as_text, as_integer, with_empty_text, number_zero, number_one, written_number, missing_value, count, sum, greatest, sum_product, less_sum, Condition, is_missing, is_present, differs, equals, exceeds, either, both, Item, own, named, unnamed, Clause, each_row, rows_where, group_where, groups_by, Link, by_columns, left_by_columns, crosswise, Query, stored, select, union_all, except, joined, all_columns, one_row}
 
 -- ---- names
 abbrev pub is_bare_byte : ℕ → Bool
@@ -33,9 +33,9 @@ abbrev pub IsTableName : List ℕ → Type 0
 IsTableName name = (parts : List (List ℕ)) × (name ≡ join_by quoted (codes ".") parts)
 
 -- ---- values
--- a number of 64 bits is written out as it is
+-- a number that is written out: of 64 bits, and neither 0 nor 1, which are values of their own
 abbrev pub is_number : ℕ → Bool
-is_number n = nat_lt n (2 ^ 64)
+is_number n = nat_lt 1 n && nat_lt n (2 ^ 64)
 
 abbrev pub is_cast : Scalar → Bool
 is_cast (as_text x) = true
@@ -53,6 +53,8 @@ is_scalar (column c) = is_column c
 is_scalar (as_text x) = is_scalar x
 is_scalar (as_integer x) = is_scalar x
 is_scalar (with_empty_text x) = is_cast x && is_scalar x
+is_scalar number_zero = true
+is_scalar number_one = true
 is_scalar (written_number n) = is_number n
 is_scalar missing_value = true
 is_scalar count = true
@@ -63,6 +65,8 @@ is_scalar (less_sum x c) = is_sum x && is_scalar x && is_column c
 
 -- a value that rests on no row
 abbrev pub is_constant : Scalar → Bool
+is_constant number_zero = true
+is_constant number_one = true
 is_constant (written_number n) = is_number n
 is_constant missing_value = true
 is_constant x = false
@@ -73,6 +77,8 @@ is_of_group (column c) = false
 is_of_group (as_text x) = is_of_group x
 is_of_group (as_integer x) = is_of_group x
 is_of_group (with_empty_text x) = is_of_group x
+is_of_group number_zero = false
+is_of_group number_one = false
 is_of_group (written_number n) = false
 is_of_group missing_value = false
 is_of_group x = true

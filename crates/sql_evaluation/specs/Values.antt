@@ -1,7 +1,7 @@
 -- The values and tests of a row or a group: for queries.
 use Rattle.std.specs.Prelude.{ℕ, ℤ, pos, Bool, not, ◌&&◌, ◌||◌, if◌then◌else◌, Option, Some, None, List, [], ◌∷◌, length, option_map, option_and_then}
 use Rattle.std.specs.Str.{bytes_eq}
-use Rattle.sql_syntax.specs.Syntax.{ColumnName, attribute, helper, Column, Scalar, column, as_text, as_integer, with_empty_text, written_number, missing_value, count, sum, greatest, sum_product, less_sum, Condition, is_missing, is_present, differs, equals, exceeds, either, both}
+use Rattle.sql_syntax.specs.Syntax.{ColumnName, attribute, helper, Column, Scalar, column, as_text, as_integer, with_empty_text, number_zero, number_one, written_number, missing_value, count, sum, greatest, sum_product, less_sum, Condition, is_missing, is_present, differs, equals, exceeds, either, both}
 use Rattle.sql_evaluation.specs.Cells.{Cell, missing, number, text_of, followed_by, integer_of, total, greatest_of, multiplied, subtracted, differ, equal, exceed, is_none}
 
 -- ---- errors
@@ -50,6 +50,8 @@ value cast v (column c) = v.own c
 value cast v (as_text x) = option_map text_of (value cast v x)
 value cast v (as_integer x) = option_and_then (integer_of cast) (value cast v x)
 value cast v (with_empty_text x) = option_map (followed_by []) (value cast v x)
+value cast v number_zero = Some (number (pos 0))
+value cast v number_one = Some (number (pos 1))
 value cast v (written_number n) = Some (number (pos n))
 value cast v missing_value = Some missing
 value cast v count = option_map (λ rows. number (pos (length rows))) v.rows

@@ -3,7 +3,7 @@ use Rattle.std.specs.Prelude.{ℕ, Bool, true, false, if◌then◌else◌, Optio
 use Rattle.std.specs.Fmt.{decimal}
 use Rattle.std.specs.List.{flat_map}
 use Rattle.sql_syntax.specs.Names.{comma_list, quoted_name}
-use Rattle.sql_syntax.specs.Syntax.{ColumnName, attribute, helper, Column, Scalar, column, as_text, as_integer, with_empty_text, written_number, missing_value, count, sum, greatest, sum_product, less_sum, Condition, is_missing, is_present, differs, equals, exceeds, either, both, Item, own, named, unnamed, Clause, each_row, rows_where, group_where, groups_by, Link, by_columns, left_by_columns, crosswise, Query, stored, select, union_all, except, joined, all_columns, one_row}
+use Rattle.sql_syntax.specs.Syntax.{ColumnName, attribute, helper, Column, Scalar, column, as_text, as_integer, with_empty_text, number_zero, number_one, written_number, missing_value, count, sum, greatest, sum_product, less_sum, Condition, is_missing, is_present, differs, equals, exceeds, either, both, Item, own, named, unnamed, Clause, each_row, rows_where, group_where, groups_by, Link, by_columns, left_by_columns, crosswise, Query, stored, select, union_all, except, joined, all_columns, one_row}
 
 -- a user's name stands in quotes
 abbrev pub name_text : ColumnName → List ℕ
@@ -18,6 +18,8 @@ scalar_text (column c) = column_text c
 scalar_text (as_text x) = codes "CAST(" ++ scalar_text x ++ codes " AS TEXT)"
 scalar_text (as_integer x) = codes "CAST(" ++ scalar_text x ++ codes " AS BIGINT)"
 scalar_text (with_empty_text x) = scalar_text x ++ codes " || ''"
+scalar_text number_zero = codes "0"
+scalar_text number_one = codes "1"
 scalar_text (written_number n) = decimal n
 scalar_text missing_value = codes "NULL"
 scalar_text count = codes "COUNT(*)"

@@ -18,6 +18,8 @@ pub data Scalar : Type 0 where
   as_integer : Scalar → Scalar
   -- a value with the empty text after it: its text, which has no equality of its own
   with_empty_text : Scalar → Scalar
+  number_zero : Scalar
+  number_one : Scalar
   -- a number that is written out, and the missing value
   written_number : ℕ → Scalar
   missing_value : Scalar
@@ -29,12 +31,6 @@ pub data Scalar : Type 0 where
   sum_product : Column → Column → Scalar
   -- a value less the sum of a column
   less_sum : Scalar → Column → Scalar
-
-abbrev pub number_zero : Scalar
-number_zero = written_number 0
-
-abbrev pub number_one : Scalar
-number_one = written_number 1
 
 -- a test of values
 pub data Condition : Type 0 where
