@@ -6,7 +6,7 @@ use Rattle.std.specs.List.{list_any}
 use Rattle.dep_model.proofs.ListLemmas.{Contains-head, Contains-later, Contains-cases}
 use Rattle.optional_tables.proofs.HomeLemmas.{get_contained}
 use Rattle.sql_syntax.specs.Syntax.{ColumnName}
-use Rattle.sql_syntax.specs.Statements.{Element, column_definition, primary_key, unique_key, foreign_key, Statement, remark, begin, commit, create_table, create_zeros, create_from, create_view, insert_into, insert_all, drop_table}
+use Rattle.sql_syntax.specs.Statements.{Element, column_definition, primary_key, unique_key, foreign_key, Statement, remark, begin, commit, create_table, create_zeros, create_from, create_view, insert_into, insert_all, drop_table, ask}
 use Rattle.sql_evaluation.specs.Cells.{Cell, same_row}
 use Rattle.sql_evaluation.specs.Evaluation.{Rows}
 use Rattle.sql_evaluation.specs.Rules.{cells_in, is_any_missing, HasMissing, HasRepeated, HasUnmatched, Breaks, IsBroken}
@@ -278,6 +278,7 @@ broken_by script next (create_view name q) h e = absurd (true≢false (sym e))
 broken_by script next (insert_into name columns q) h e = absurd (true≢false (sym e))
 broken_by script next (insert_all name q) h e = absurd (true≢false (sym e))
 broken_by script next (drop_table name) h e = absurd (true≢false (sym e))
+broken_by script next (ask q) h e = absurd (true≢false (sym e))
 
 -- a statement that can be done is refused exactly where it would leave a broken table
 pub refused_exactly : (cast : Cast) (script : List Statement) (x : Statement) (state next : State) → done cast x state ≡ Some next

@@ -5,7 +5,7 @@ use Rattle.std.specs.List.{list_all}
 use Rattle.std.specs.Ordering.{int_eq}
 use Rattle.std.specs.Str.{bytes_eq}
 use Rattle.sql_syntax.specs.Syntax.{ColumnName, Query}
-use Rattle.sql_syntax.specs.Statements.{Element, column_definition, primary_key, unique_key, foreign_key, Statement, remark, begin, commit, create_table, create_zeros, create_from, create_view, insert_into, insert_all, drop_table}
+use Rattle.sql_syntax.specs.Statements.{Element, column_definition, primary_key, unique_key, foreign_key, Statement, remark, begin, commit, create_table, create_zeros, create_from, create_view, insert_into, insert_all, drop_table, ask}
 use Rattle.sql_evaluation.specs.Cells.{Cell, missing, text, number}
 use Rattle.sql_evaluation.specs.Values.{bytes_of}
 use Rattle.sql_evaluation.specs.Evaluation.{Rows, Engine, evaluate}
@@ -105,6 +105,7 @@ done cast (insert_into name columns q) state =
     then option_and_then (inserted name state) (evaluate (engine_at cast state) q) else None
 done cast (insert_all name q) state = option_and_then (inserted name state) (evaluate (engine_at cast state) q)
 done cast (drop_table name) state = if is_some (state name) then Some (with_name name None state) else None
+done cast (ask q) state = option_map (λ rows. state) (evaluate (engine_at cast state) q)
 
 -- the statements that an engine refuses in a state, for whatever reason beside: a key, a reference, a value
 -- that may not be missing or is of another type, a full disk

@@ -20,7 +20,7 @@ use Rattle.ddl_text.specs.Ddl.{is_empty, is_never_missing}
 use Rattle.ddl_text.specs.Designs.{keyed, known_keys}
 use Rattle.ddl_text.specs.KeysAndReferences.{KeyHolds}
 use Rattle.sql_syntax.specs.Names.{quoted_name}
-use Rattle.sql_syntax.specs.Statements.{Element, primary_key, unique_key, Statement, remark, begin, commit, create_table, create_zeros, create_from, create_view, insert_into, insert_all, drop_table}
+use Rattle.sql_syntax.specs.Statements.{Element, primary_key, unique_key, Statement, remark, begin, commit, create_table, create_zeros, create_from, create_view, insert_into, insert_all, drop_table, ask}
 use Rattle.sql_evaluation.specs.Cells.{is_none}
 use Rattle.sql_evaluation.specs.Evaluation.{Rows}
 use Rattle.sql_evaluation.specs.Running.{Held, table, view, State, Cast, Fails, rows_of_table, tried, done}
@@ -54,6 +54,7 @@ table_of (create_view name q) = None
 table_of (insert_into name columns q) = None
 table_of (insert_all name q) = None
 table_of (drop_table name) = None
+table_of (ask q) = None
 
 -- a table that a statement creates is one of a design
 abbrev CreatesDesigned : Schema → List TableDesign → Statement → Type 0

@@ -28,6 +28,8 @@ pub data Statement : Type 0 where
   insert_into : List ℕ → List ColumnName → Query → Statement
   insert_all : List ℕ → Query → Statement
   drop_table : List ℕ → Statement
+  -- the rows of a query, for a reader
+  ask : Query → Statement
 
 -- ---- elements
 abbrev pub element_text : Element → List ℕ
@@ -66,6 +68,7 @@ statement_text (insert_into name columns q) =
     codes "INSERT INTO " ++ name ++ codes " (" ++ names_text columns ++ codes ") " ++ query_text q ++ codes ";\n"
 statement_text (insert_all name q) = codes "INSERT INTO " ++ name ++ 32 ∷ (query_text q ++ codes ";\n")
 statement_text (drop_table name) = codes "DROP TABLE " ++ name ++ codes ";\n"
+statement_text (ask q) = query_text q ++ codes ";\n"
 
 -- statements, one after the other
 abbrev pub script_text : List Statement → List ℕ

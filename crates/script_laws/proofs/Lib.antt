@@ -1,0 +1,5 @@
+pub mod Lists
+pub mod Tables
+pub mod Migrations
+pub mod Checks
+pub mod Measures

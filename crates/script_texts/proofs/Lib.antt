@@ -1,0 +1,11 @@
+pub mod Follows
+pub mod Names
+pub mod Lists
+pub mod Scalars
+pub mod Conditions
+pub mod Items
+pub mod Clauses
+pub mod Links
+pub mod Queries
+pub mod Elements
+pub mod Statements
