@@ -9,7 +9,7 @@ use Rattle.schema_grammar.specs.Rests.{Rest, ◌>>=◌, take, number, arrow, sid
 use Rattle.schema_grammar.specs.Grammar as grammar
 use Rattle.proof_grammar.specs.declared.rule_name.RuleName.{RuleName}
 use Rattle.proof_grammar.specs.declared.rule_name.RuleName.TheVariants as rule
-use Rattle.proof_grammar.specs.Lines.{Body, by_given, by_reflexivity, by_mreflexivity, by_step, by_pair, Line, one_premise, two_premises, augmentation_body, maugmentation_body, body, stated_dependency, certificate_line, certificate_line_from}
+use Rattle.proof_grammar.specs.Lines.{Body, by_given, by_reflexivity, by_mreflexivity, by_step, by_pair, Line, one_premise, two_premises, augmentation_body, maugmentation_body, body, stated_dependency, line_by, line_by_from, certificate_line}
 use Rattle.proof_grammar.specs.Readers.{colon, with_word}
 use Rattle.proof_grammar.proofs.FormShapes.{Part, heading, lhs, rhs, by, wide, narrow, ending, nothing, second, sets, at_start, at_number, at_side, past, at_rule, shape_of_rule}
 use Rattle.proof_grammar.proofs.JudgedLines.{Judged}
@@ -86,7 +86,7 @@ body_judged rule.Coalescence names at next_column ms stop f follows =
 -- ---- the line
 pub line_judged : (names : List (List ℕ)) (at next_column : ℕ) (ms : List Mark) (stop : Option LexError)
     → Judged at_start names at next_column ms stop (certificate_line names (left_at at next_column ms stop))
-unfolding certificate_line certificate_line_from stated_dependency take
+unfolding line_by line_by_from stated_dependency take
 line_judged names at next_column ms stop =
     first_judged names at next_column ms stop _
     (λ n a ks. colon_judged false heading (at_side lhs) names at a ks stop _ (refl, refl, refl, refl)

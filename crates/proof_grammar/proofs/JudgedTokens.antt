@@ -17,7 +17,7 @@ use Rattle.schema_grammar.specs.Words.{is_word_token}
 use Rattle.proof_grammar.specs.declared.rule_name.RuleName.{RuleName}
 use Rattle.proof_grammar.specs.Lines.{Line}
 use Rattle.proof_grammar.specs.LineDiagnostics.{TokenForm, token_form, word_form, a_with, a_rule, a_word}
-use Rattle.proof_grammar.specs.Readers.{colon, with_word, rule_name}
+use Rattle.proof_grammar.specs.Readers.{colon, with_word, rule_by, rule_name}
 use Rattle.proof_grammar.specs.Tokens.{is_with, rule_named, rule_word}
 use Rattle.proof_grammar.proofs.FormShapes.{Part, lhs, rhs, After, first, Shape, at_number, at_side, past, at_rule, at_with, past_arrow, past_colon, shape_of_rule, past_number, shape_after, is_last, is_final, takes_words, wanted_after, wanted_by}
 use Rattle.proof_grammar.proofs.JudgedLines.{form, IsRight, Judged, Wrong, goes_on, stuck_here, end_here, flaw_here}
@@ -182,7 +182,7 @@ rule_goes _ word = refl
 pub rule_judged : (names : List (List ℕ)) (line next_column : ℕ) (ms : List Mark) (stop : Option LexError)
     (f : RuleName × Rest → Result Line SchemaRefusal) → Follows names line stop shape_of_rule f
     → Judged at_rule names line next_column ms stop (rule_name (left_at line next_column ms stop) >>= f)
-unfolding rule_name take
+unfolding rule_by take
 rule_judged names line next_column ms stop f follows =
     value_judged at_rule names line next_column ms stop what.Rule (λ m. rule_named m.kind m.word) shape_of_rule f refl refl
     (λ e. absurd (false≢true e)) (λ m other. rule_goes m.kind m.word) follows
