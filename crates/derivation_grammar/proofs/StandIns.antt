@@ -14,13 +14,13 @@ use Rattle.schema_grammar.specs.declared.refusal.What.TheVariants as what
 use Rattle.schema_grammar.specs.Rests.{Rest, ◌>>=◌, take, refusal_of_token, number, arrow, attribute_of_word, words_from, side, refusal_at_end, unless}
 use Rattle.proof_grammar.specs.declared.rule_name.RuleName.{RuleName}
 use Rattle.proof_grammar.specs.declared.rule_name.RuleName.TheVariants as ten
-use Rattle.proof_grammar.specs.Lines.{Body, by_step, by_pair, Line, body, one_premise, two_premises, stated_dependency, certificate_line, certificate_line_from}
-use Rattle.proof_grammar.specs.Readers.{colon, rule_name}
+use Rattle.proof_grammar.specs.Lines.{Body, by_step, by_pair, Line, body, one_premise, two_premises, stated_dependency, line_by, line_by_from, certificate_line}
+use Rattle.proof_grammar.specs.Readers.{colon, rule_by, rule_name}
 use Rattle.proof_grammar.specs.Tokens.{rule_word, rule_named}
 use Rattle.proof_grammar.proofs.TokenLaws.{named_back}
 use Rattle.derivation_grammar.specs.declared.line_rule.LineRule.{LineRule}
 use Rattle.derivation_grammar.specs.declared.line_rule.LineRule.TheVariants as rule
-use Rattle.derivation_grammar.specs.Lines.{DerivationBody, by_rule, by_decomposition, by_further, DerivationLine, line_rule_word, line_rule_name, derivation_body, derivation_line, derivation_line_from}
+use Rattle.derivation_grammar.specs.Lines.{DerivationBody, by_rule, by_decomposition, by_further, DerivationLine, line_rule_word, line_rule_name, derivation_body, derivation_line}
 use Rattle.derivation_grammar.specs.LineDiagnostics.{stand_in, as_certificate}
 use Rattle.derivation_grammar.proofs.RuleWords.{word_names, certificate_word}
 
@@ -194,7 +194,7 @@ ten_named : LineRule × Rest → RuleName × Rest
 ten_named x = (ten_of x.0, x.1)
 
 rule_same : (r : Rest) → rule_name (rest_by_ten 0 r) ≡ map_ok ten_named (line_rule_name r)
-unfolding rule_name line_rule_name take ten_named rule_named
+unfolding rule_by take ten_named rule_named
 rule_same r = by_cases r.marks r.stop
   where
     by_cases : (ms : List Mark) (stop : Option LexError)
@@ -260,7 +260,7 @@ line_by_ten_after names n r =
 
 pub line_same : (names : List (List ℕ)) (r : Rest)
     → certificate_line names (rest_by_ten 2 r) ≡ map_ok line_by_ten (derivation_line names r)
-unfolding certificate_line certificate_line_from derivation_line derivation_line_from take
+unfolding line_by line_by_from take
 line_same names r = by_cases r.marks r.stop
   where
     by_cases : (ms : List Mark) (stop : Option LexError)

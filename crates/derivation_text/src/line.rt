@@ -34,7 +34,7 @@ pub struct DerivationLine {
 }
 
 /// A line of which this is the first token, and what is left after it.
-#[tactic(auto, unfolding(derivation_grammar::specs::Lines::derivation_line_from))]
+#[tactic(auto, unfolding(proof_grammar::specs::Lines::line_by_from))]
 pub fn read_line(
     names: &Names<'_>,
     first: Token,
@@ -96,7 +96,7 @@ fn derivation_body<'a>(
 }
 
 /// The name of a rule.
-#[tactic(auto, unfolding(derivation_grammar::specs::Lines::line_rule_name))]
+#[tactic(auto, unfolding(proof_grammar::specs::Readers::rule_by))]
 fn line_rule_name(start: Cursor<'_>) -> Result<(LineRule, Cursor<'_>), SchemaRefusal>
     ensures ok { IfOk result (λ x. line_rule_name (rest_of start.entry) ≡ Ok (x.0, rest_of x.1)) }
     ensures err { IfErr result (λ e. line_rule_name (rest_of start.entry) ≡ Err e) }

@@ -186,6 +186,32 @@ line_back_by rules IsBody are naming names at text l means =
     ap (λ t. line_by rules names (rest_from at 1 t)) means.tokens
     ∙ marks_read_by rules IsBody are names at 1 means.marks l means.is_line
 
+-- a line whose body other rules have too is a line of theirs
+pub line_of_others : {A B : Type 0} (IsA : List (List ℕ) → List Mark → A → Type 0)
+    (IsB : List (List ℕ) → List Mark → B → Type 0) (naming : Naming) (names : List (List ℕ)) (text : List ℕ)
+    (l : NumberedLine A) (b : B) → ((ms : List Mark) → IsA names ms l.body → IsB names ms b)
+    → MeansLineBy A IsA naming names text l
+    → MeansLineBy B IsB naming names text (record { number = l.number; stated = l.stated; body = b })
+line_of_others IsA IsB naming names text l b body means =
+    let line = means.is_line in
+    record {
+      marks = means.marks;
+      tokens = means.tokens;
+      is_line = record {
+        number = line.number;
+        first = line.first;
+        stated = line.stated;
+        second = line.second;
+        rule = line.rule;
+        whole = line.whole;
+        is_number = line.is_number;
+        first_colon = line.first_colon;
+        dependency = line.dependency;
+        second_colon = line.second_colon;
+        is_rule = body line.rule line.is_rule;
+      };
+    }
+
 -- ---- those of certificates
 pub line_reads : (names : List (List ℕ)) (start : Rest) (l : Line) → certificate_line names start ≡ Ok l
     → ReadsLine Body IsRule names start l

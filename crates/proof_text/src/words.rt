@@ -46,7 +46,7 @@ pub fn with_word(start: Cursor<'_>) -> Result<Cursor<'_>, SchemaRefusal>
 }
 
 /// The name of a rule.
-#[tactic(auto, unfolding(proof_grammar::specs::Readers::rule_name))]
+#[tactic(auto, unfolding(proof_grammar::specs::Readers::rule_by))]
 pub fn rule_name(start: Cursor<'_>) -> Result<(RuleName, Cursor<'_>), SchemaRefusal>
     ensures ok { IfOk result (λ x. rule_name (rest_of start.entry) ≡ Ok (x.0, rest_of x.1)) }
     ensures err { IfErr result (λ e. rule_name (rest_of start.entry) ≡ Err e) }
