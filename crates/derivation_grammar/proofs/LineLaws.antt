@@ -4,7 +4,6 @@ use Rattle.std.proofs.Common.{◌≡◌, ℕ, List, [], ◌∷◌, Option, Some,
 use Rattle.derivation.proofs.RuleTableLemmas.{some_of_ok, the_ok}
 use Rattle.schema_model.specs.declared.naming.Naming.{Naming}
 use Rattle.lexer.specs.Modes as mode
-use Rattle.lexer.specs.declared.token.TokenKind.{TokenKind}
 use Rattle.lexer.specs.declared.token.TokenKind.TheVariants as token
 use Rattle.lexer.specs.Tokens.{Mark, lex}
 use Rattle.schema_grammar.specs.declared.refusal.What.TheVariants as what
@@ -12,18 +11,18 @@ use Rattle.schema_grammar.specs.Rests.{Rest, rest_from, take, refusal_of_token, 
 use Rattle.proof_grammar.specs.declared.rule_name.RuleName.{RuleName}
 use Rattle.proof_grammar.specs.Lines.{body}
 use Rattle.proof_grammar.specs.Readers.{rule_by, rule_name}
-use Rattle.proof_grammar.specs.Tokens.{rule_named}
+use Rattle.proof_grammar.specs.Tokens.{rule_word, named_by}
 use Rattle.proof_grammar.proofs.CheckedLemmas.{bind_ok}
 use Rattle.proof_grammar.proofs.LineLaws.{line_there_by, line_back_by}
 use Rattle.proof_grammar.proofs.RuleLaws.{RuleEnds, RuleRead, AreRead, rule_there, rule_back}
-use Rattle.proof_grammar.proofs.TokenLaws.{reads_value, after_of, number_there, rest_at}
+use Rattle.proof_grammar.proofs.TokenLaws.{reads_value, after_of, number_there, named_there, rest_at}
 use Rattle.derivation_rules.specs.declared.rule.FurtherRule.{FurtherRule}
 use Rattle.derivation_rules.specs.declared.rule.FurtherRule.TheVariants as further
 use Rattle.derivation_rules.specs.FurtherRules as table
 use Rattle.derivation_rules.specs.Views.{further_of}
 use Rattle.derivation_grammar.specs.declared.line_rule.LineRule.{LineRule}
 use Rattle.derivation_grammar.specs.declared.line_rule.LineRule.TheVariants as rule
-use Rattle.derivation_grammar.specs.Lines.{DerivationBody, by_rule, by_decomposition, by_further, DerivationLine, line_rule_word, line_rule_named, line_rule_name, derivation_body, derivation_rules, derivation_line}
+use Rattle.derivation_grammar.specs.Lines.{DerivationBody, by_rule, by_decomposition, by_further, DerivationLine, line_rule_word, line_rule_name, derivation_body, derivation_rules, derivation_line}
 use Rattle.derivation_grammar.specs.Meanings.{further_name, IsLineRule, MeansDerivationLine}
 use Rattle.derivation_grammar.proofs.RuleWords.{Named, word_names, certificate_word}
 
@@ -32,35 +31,29 @@ use Rattle.derivation_grammar.proofs.RuleWords.{Named, word_names, certificate_w
 abbrev TokenNames : LineRule → Mark → Type 0
 TokenNames x m = (m.kind ≡ token.Identifier) × Named m.word x
 
-token_names : (x : LineRule) (k : TokenKind) (word : List ℕ) → line_rule_named k word ≡ Some x
-    → (k ≡ token.Identifier) × Named word x
-token_names x token.Identifier word e = (refl, word_names word x e)
-token_names x token.Quoted word e = cc
-token_names x (token.Number v) word e = cc
-token_names x token.Colon word e = cc
-token_names x token.Arrow word e = cc
-token_names x token.DoubleArrow word e = cc
-token_names x token.Empty word e = cc
+token_names : (x : LineRule) (m : Mark) → named_by line_rule_word m.kind m.word ≡ Some x → TokenNames x m
+token_names x m e =
+    let is = named_there line_rule_word m.kind m.word x e in (is.0, word_names m.word x is.1)
 
--- a rule that is read where tokens have these names is read where they have others too
-renamed : {R S : Type 0} (named : TokenKind → List ℕ → Option R) (other : TokenKind → List ℕ → Option S) (x : R) (y : S)
-    (r next : Rest) → ((k : TokenKind) (word : List ℕ) → named k word ≡ Some x → other k word ≡ Some y)
+-- a rule that is read where words have these names is read where they have others too
+renamed : {R S : Type 0} (named : List ℕ → Option R) (other : List ℕ → Option S) (x : R) (y : S) (r next : Rest)
+    → ((word : List ℕ) → named word ≡ Some x → other word ≡ Some y)
     → rule_by named r ≡ Ok (x, next) → rule_by other r ≡ Ok (y, next)
-unfolding rule_by
+unfolding rule_by named_by
 renamed {R} named other x y r next same e =
     let t = bind_ok (take what.Rule r) _ (x, next) e in
-    let n = bind_ok (ok_or (named t.0.0.kind t.0.0.word) (refusal_of_token what.Rule t.0.0 t.0.1)) _ (x, next) t.2 in
+    let m = t.0.0 in
+    let n = bind_ok (ok_or (named_by named m.kind m.word) (refusal_of_token what.Rule m t.0.1)) _ (x, next) t.2 in
     let whole : (n.0, t.0.1) ≡ (x, next) = the_ok _ (x, next) n.2 in
-    let found = some_of_ok (named t.0.0.kind t.0.0.word) _ n.0 n.1 ∙ ap (λ (u : R × Rest). Some u.0) whole in
-    rw (t.1, same t.0.0.kind t.0.0.word found) (ap (λ (u : R × Rest). Ok (y, u.1)) whole)
+    let found = named_there named m.kind m.word x
+    (some_of_ok (named_by named m.kind m.word) _ n.0 n.1 ∙ ap (λ (u : R × Rest). Some u.0) whole) in
+    rw (t.1, found.0, same m.word found.1) (ap (λ (u : R × Rest). Ok (y, u.1)) whole)
 
 -- a name of one of the ten is read as it
 ten_there : (r next : Rest) (c : RuleName) → line_rule_name r ≡ Ok (rule.Certificate c, next)
     → rule_name r ≡ Ok (c, next)
-unfolding rule_named
 ten_there r next c e =
-    renamed line_rule_named rule_named (rule.Certificate c) c r next
-    (λ k word h. let named = token_names (rule.Certificate c) k word h in ap (λ j. rule_named j word) named.0 ∙ named.1) e
+    renamed line_rule_word rule_word (rule.Certificate c) c r next (λ word h. word_names word (rule.Certificate c) h) e
 
 rule_ends : (names : List (List ℕ)) (x : LineRule) (r next : Rest) (b : DerivationBody × Rest)
     → line_rule_name r ≡ Ok (x, next) → derivation_body names x next ≡ Ok b
@@ -72,8 +65,7 @@ rule_ends names (rule.Certificate c) r next b here there =
     subst (λ (u : DerivationBody × Rest). RuleEnds DerivationBody IsLineRule names r u.0 u.1) (the_ok _ b inner.2)
     (record { is_rule = reads.is_rule; stop = reads.stop })
 rule_ends names rule.Decomposition r next b here there =
-    let name = reads_value what.Rule (λ m. line_rule_named m.kind m.word) TokenNames
-    (λ x m. token_names x m.kind m.word) r (rule.Decomposition, next) here in
+    let name = reads_value what.Rule (λ m. named_by line_rule_word m.kind m.word) TokenNames token_names r (rule.Decomposition, next) here in
     let p = bind_ok (number next) _ b there in
     let premise = number_there next p.0 p.1 in
     subst (λ (u : DerivationBody × Rest). RuleEnds DerivationBody IsLineRule names r u.0 u.1) (the_ok _ b p.2) (record {
@@ -88,8 +80,7 @@ rule_ends names rule.Decomposition r next b here there =
       stop = premise.takes.stop ∙ name.takes.stop;
     })
 rule_ends names (rule.Further f) r next b here there =
-    let name = reads_value what.Rule (λ m. line_rule_named m.kind m.word) TokenNames
-    (λ x m. token_names x m.kind m.word) r (rule.Further f, next) here in
+    let name = reads_value what.Rule (λ m. named_by line_rule_word m.kind m.word) TokenNames token_names r (rule.Further f, next) here in
     let p = bind_ok (number next) _ b there in
     let q = bind_ok (number p.0.1) _ b p.2 in
     let first = number_there next p.0 p.1 in
@@ -124,26 +115,14 @@ decomposition_back : line_rule_word (codes "decomposition") ≡ Some rule.Decomp
 unfolding line_rule_word
 decomposition_back = refl
 
--- a name of one of the ten that is read
-ten_named : (c : RuleName) (k : TokenKind) (word : List ℕ) → rule_named k word ≡ Some c
-    → line_rule_named k word ≡ Some (rule.Certificate c)
-unfolding rule_named
-ten_named c token.Identifier word e = certificate_word word c e
-ten_named c token.Quoted word e = cc
-ten_named c (token.Number v) word e = cc
-ten_named c token.Colon word e = cc
-ten_named c token.Arrow word e = cc
-ten_named c token.DoubleArrow word e = cc
-ten_named c token.Empty word e = cc
-
 ten_back : (r next : Rest) (c : RuleName) → rule_name r ≡ Ok (c, next)
     → line_rule_name r ≡ Ok (rule.Certificate c, next)
 ten_back r next c e =
-    renamed rule_named line_rule_named c (rule.Certificate c) r next (λ k word h. ten_named c k word h) e
+    renamed rule_word line_rule_word c (rule.Certificate c) r next (λ word h. certificate_word word c h) e
 
 rule_read : (names : List (List ℕ)) (line from : ℕ) (marks : List Mark) (b : DerivationBody)
     → IsLineRule names marks b → RuleRead LineRule DerivationBody derivation_rules names line from marks b
-unfolding derivation_body rule_by number take
+unfolding derivation_body rule_by named_by number take
 rule_read names line from marks (by_rule b) is =
     let back = rule_back names line from marks b is in
     record {

@@ -1,10 +1,8 @@
 -- The lines of a derivation, which are those of certificates with further rules: for the meaning and the
 -- reading of derivations.
-use Rattle.std.specs.Prelude.{ℕ, List, Option, None, Some, option_map, if◌then◌else◌, Result, Ok, codes}
+use Rattle.std.specs.Prelude.{ℕ, List, Option, Some, option_map, if◌then◌else◌, Result, Ok, codes}
 use Rattle.std.specs.Str.{bytes_eq}
 use Rattle.lexer.specs.Tokens.{Mark}
-use Rattle.lexer.specs.declared.token.TokenKind.{TokenKind}
-use Rattle.lexer.specs.declared.token.TokenKind.TheVariants as token
 use Rattle.schema_grammar.specs.declared.refusal.SchemaRefusal.{SchemaRefusal}
 use Rattle.schema_grammar.specs.Rests.{Rest, ◌>>=◌, number}
 use Rattle.proof_grammar.specs.Lines.{NumberedLine, Rules, line_by_from, line_by, Body, body}
@@ -39,14 +37,9 @@ line_rule_word word =
     else if bytes_eq word (codes "mpseudotransitivity") then Some (rule.Further further.MPseudotransitivity)
     else option_map rule.Certificate (rule_word word)
 
--- the rule that a token names
-abbrev pub line_rule_named : TokenKind → List ℕ → Option LineRule
-line_rule_named token.Identifier word = line_rule_word word
-line_rule_named _ word = None
-
 -- the rule that the next word names, and what is left
 abbrev pub line_rule_name : Rest → Result (LineRule × Rest) SchemaRefusal
-line_rule_name r = rule_by line_rule_named r
+line_rule_name r = rule_by line_rule_word r
 
 -- what follows the name of this rule: for a further one, the numbers of its premises
 unfoldable pub derivation_body : List (List ℕ) → LineRule → Rest
@@ -65,7 +58,7 @@ derivation_body names (rule.Further r) start = do
 -- ---- the whole line
 -- all rules
 abbrev pub derivation_rules : Rules LineRule DerivationBody
-derivation_rules = record { named = line_rule_named; body = derivation_body }
+derivation_rules = record { named = line_rule_word; body = derivation_body }
 
 -- a line, from its first token on, and the whole line
 abbrev pub derivation_line_from : List (List ℕ) → Mark → Rest → Result DerivationLine SchemaRefusal

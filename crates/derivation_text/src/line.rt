@@ -4,7 +4,8 @@ ghost use Rattle.dep_model.specs.Deps.{IsDepWithin};
 ghost use Rattle.tokens.specs.Views.{names_in, rest_of};
 ghost use Rattle.lexer.specs.Tokens.{bytes_of};
 ghost use Rattle.schema_grammar.specs.Declarations.{mark_of};
-ghost use Rattle.derivation_grammar.specs.Lines.{line_rule_word, line_rule_named, line_rule_name, derivation_body, derivation_line_from};
+ghost use Rattle.proof_grammar.specs.Tokens.{named_by};
+ghost use Rattle.derivation_grammar.specs.Lines.{line_rule_word, line_rule_name, derivation_body, derivation_line_from};
 ghost use Rattle.derivation_text.specs.Views.{body_of_line, derivation_line_of};
 
 use attr_sets::MOST_ATTRIBUTES;
@@ -111,8 +112,9 @@ fn line_rule_name(start: Cursor<'_>) -> Result<(LineRule, Cursor<'_>), SchemaRef
 }
 
 /// The rule whose name a token is, in lower case.
+#[tactic(auto, unfolding(proof_grammar::specs::Tokens::named_by))]
 fn line_rule_named(kind: TokenKind, word: &Word<'_>) -> Option<LineRule>
-    ensures exact { result ≡ line_rule_named kind (bytes_of word.now) }
+    ensures exact { result ≡ named_by line_rule_word kind (bytes_of word.now) }
 {
     match kind {
         TokenKind::Identifier => line_rule_word(word.bytes().as_slice()),

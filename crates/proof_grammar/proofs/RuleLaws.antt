@@ -15,10 +15,10 @@ use Rattle.proof_grammar.specs.Meanings.{IsNumber, IsKeyword, pair_name, IsRule,
 use Rattle.schema_grammar.specs.Rests.{Rest, ◌>>=◌, take, number, side}
 use Rattle.schema_grammar.specs.Words.{is_word_token}
 use Rattle.proof_grammar.specs.Readers.{colon, with_word, rule_by}
-use Rattle.proof_grammar.specs.Tokens.{is_with, rule_named, rule_word}
+use Rattle.proof_grammar.specs.Tokens.{is_with, named_by, rule_word}
 use Rattle.proof_grammar.proofs.CheckedLemmas.{bind_ok}
 use Rattle.proof_grammar.proofs.SideLaws.{side_there, side-from}
-use Rattle.proof_grammar.proofs.TokenLaws.{reads_value, rule_spelling, after_of, number_there, colon_there, with_there, rule_named_there, rest_at, named_back}
+use Rattle.proof_grammar.proofs.TokenLaws.{reads_value, rule_spelling, after_of, number_there, colon_there, with_there, rule_word_there, named_there, rest_at, named_back}
 
 -- ---- any rules
 -- a rule that is read, up to the end of a line
@@ -193,11 +193,11 @@ body_there names rule.MTransitivity name start b says e = two_premises_there nam
 body_there names rule.Coalescence name start b says e = two_premises_there names coalescence name start b says e
 
 pub rule_there : (names : List (List ℕ)) (r : Rest) (n : RuleName × Rest) (b : Body × Rest)
-    → rule_by rule_named r ≡ Ok n → body names n.0 n.1 ≡ Ok b → RuleEnds Body IsRule names r b.0 b.1
+    → rule_by rule_word r ≡ Ok n → body names n.0 n.1 ≡ Ok b → RuleEnds Body IsRule names r b.0 b.1
 unfolding rule_by
 rule_there names r n b here there =
-    let name = reads_value what.Rule (λ m. rule_named m.kind m.word) (λ x. IsKeyword (rule_spelling x))
-    (λ x m h. rule_named_there m.kind m.word x h) r n here in
+    let name = reads_value what.Rule (λ m. named_by rule_word m.kind m.word) (λ x. IsKeyword (rule_spelling x))
+    (λ x m h. let is = named_there rule_word m.kind m.word x h in (is.0, rule_word_there m.word x is.1)) r n here in
     let reads = body_there names n.0 name.mark n.1 b name.holds there in
     let of : List Mark → Type 0 = λ t. IsRule names t b.0 in
     record {
@@ -219,7 +219,7 @@ rule_made : {names : List (List ℕ)} {line from : ℕ} {whole : List Mark} {b :
     (marks : List Mark)
     → whole ≡ m ∷ marks → IsKeyword (rule_spelling r) m
     → BodyRead names line (after_of m) r marks b → OneRead names line from whole b
-unfolding rule_by take rule_named
+unfolding rule_by take named_by
 rule_made {names} {line} r m marks same says rest = record {
   rule = r;
   next = rest_at line (after_of m) marks;

@@ -3,7 +3,6 @@
 use Rattle.std.specs.Prelude.{ℕ, List, Option, Result, Ok, ok_or}
 use Rattle.dep_model.specs.Dependencies.{Dependency}
 use Rattle.derivation.specs.Trees.{Step, augmentation, maugmentation, complementation, replication, Pair, transitivity, mtransitivity, coalescence}
-use Rattle.lexer.specs.declared.token.TokenKind.{TokenKind}
 use Rattle.lexer.specs.Tokens.{Mark}
 use Rattle.schema_grammar.specs.declared.refusal.SchemaRefusal.{SchemaRefusal}
 use Rattle.schema_grammar.specs.declared.refusal.What.TheVariants as what
@@ -12,7 +11,7 @@ use Rattle.proof_grammar.specs.declared.rule_name.RuleName.TheVariants as rule
 use Rattle.schema_grammar.specs.Grammar as grammar
 use Rattle.schema_grammar.specs.Rests.{Rest, ◌>>=◌, take, refusal_of_token, number_in, number, arrow, refusal_at_end, unless, side}
 use Rattle.proof_grammar.specs.Readers.{colon, with_word, rule_by}
-use Rattle.proof_grammar.specs.Tokens.{rule_named}
+use Rattle.proof_grammar.specs.Tokens.{rule_word}
 
 -- ---- any lines
 -- a line: its number, a dependency, and what it says of that
@@ -21,9 +20,9 @@ pub record NumberedLine (B : Type 0) : Type 0 where
   pub stated : Dependency
   pub body : B
 
--- the rules that lines may name: which one a token names, and what follows the name
+-- the rules that lines may name: which one a word names, and what follows the name
 pub record Rules (R B : Type 0) : Type 0 where
-  pub named : TokenKind → List ℕ → Option R
+  pub named : List ℕ → Option R
   pub body : List (List ℕ) → R → Rest → Result (B × Rest) SchemaRefusal
 
 -- side, arrow, side
@@ -47,7 +46,8 @@ line_by_from rules names m rest = do
   unless (refusal_at_end b.1) (record { number = n; stated = d.0; body = b.0 })
 
 -- the whole line
-unfoldable pub line_by : {R B : Type 0} → Rules R B → List (List ℕ) → Rest → Result (NumberedLine B) SchemaRefusal
+unfoldable pub line_by : {R B : Type 0} → Rules R B → List (List ℕ) → Rest
+    → Result (NumberedLine B) SchemaRefusal
 line_by rules names start = take what.Number start >>= λ t. line_by_from rules names t.0 t.1
 
 -- ---- those of certificates
@@ -111,7 +111,7 @@ body names rule.Coalescence start = two_premises coalescence start
 
 -- the ten rules
 abbrev pub certificate_rules : Rules RuleName Body
-certificate_rules = record { named = rule_named; body = body }
+certificate_rules = record { named = rule_word; body = body }
 
 -- a line of a certificate, from its first token on, and the whole line
 abbrev pub certificate_line_from : List (List ℕ) → Mark → Rest → Result Line SchemaRefusal
