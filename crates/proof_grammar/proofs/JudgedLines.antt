@@ -52,7 +52,7 @@ Judged s names line next_column ms stop (Ok l) = Ends s (token_forms names ms) �
 Judged s names line next_column ms stop (Err e) = Refused s names line next_column ms stop e
 
 -- no word of a side that is wrong
-abbrev pub IsRight : Shape → List (List ℕ) → Mark → Type 0
+abbrev pub IsRight : Shape → Names → Mark → Type 0
 IsRight s names m = (n : DiagnosticKind) → takes_words s ≡ true → DiagnosesOfWord format.Plain names.attributes m n → ⊥
 
 -- ---- one token later
