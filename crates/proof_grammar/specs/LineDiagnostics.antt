@@ -78,7 +78,7 @@ rule_form rule.Coalescence = with_two
 abbrev pub certificate_names : List (List ℕ) → Names
 certificate_names names = record { attributes = names; rules = λ word. option_map rule_form (rule_word word) }
 
--- tokens of these forms are a line over some names
+-- tokens of these forms are a line of a certificate over some names; the ten have all forms that rules have
 pub record AreLine (fs : List TokenForm) : Type 0 where
   pub names : List (List ℕ)
   pub marks : List Mark
