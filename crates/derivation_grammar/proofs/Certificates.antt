@@ -14,11 +14,12 @@ use Rattle.derivation.specs.Conclusions.{Proves}
 use Rattle.derivation.proofs.ConclusionLemmas.{Proves-one}
 use Rattle.schema_model.specs.declared.naming.Naming.{Naming}
 use Rattle.proof_grammar.specs.Lines.{Body, by_given, by_reflexivity, by_mreflexivity, by_step, by_pair, Line}
-use Rattle.proof_grammar.specs.Meanings.{MeanLines, certificate_lines}
+use Rattle.proof_grammar.specs.Meanings.{IsRule, MeanLines, certificate_lines}
+use Rattle.proof_grammar.proofs.LineLaws.{line_of_others}
 use Rattle.proof_grammar.specs.Spelling.{IsTreeAt, IsTreeOf, AreNodes, SpellsWithin}
 use Rattle.derivation_grammar.specs.Derivations.{stated_at, over_one, over_two, outcome_of_rule, outcome_of_line, AreDerived, Derives}
 use Rattle.derivation_grammar.specs.Lines.{by_rule, DerivationLine}
-use Rattle.derivation_grammar.specs.Meanings.{MeanDerivationLines}
+use Rattle.derivation_grammar.specs.Meanings.{IsLineRule, MeanDerivationLines}
 use Rattle.derivation_grammar.proofs.OutcomeLemmas.{outcome_implied}
 
 -- ---- soundness
@@ -61,27 +62,10 @@ unfolding as_lines as_line
 lines_mean naming names [] [] mean = tt
 lines_mean naming names [] (l ∷ ls) mean = absurd mean
 lines_mean naming names (t ∷ ts) [] mean = absurd mean
-lines_mean naming names (t ∷ ts) (l ∷ ls) mean =
-    let line = mean.0.is_line in (
-      record {
-        marks = mean.0.marks;
-        tokens = mean.0.tokens;
-        is_line = record {
-          number = line.number;
-          first = line.first;
-          stated = line.stated;
-          second = line.second;
-          rule = line.rule;
-          whole = line.whole;
-          is_number = line.is_number;
-          first_colon = line.first_colon;
-          dependency = line.dependency;
-          second_colon = line.second_colon;
-          is_rule = line.is_rule;
-        };
-      },
-      lines_mean naming names ts ls mean.1,
-    )
+lines_mean naming names (t ∷ ts) (l ∷ ls) mean = (
+  line_of_others IsRule IsLineRule naming names t l (by_rule l.body) (λ ms is. is) mean.0,
+  lines_mean naming names ts ls mean.1,
+)
 
 -- trees prove dependencies, one each
 abbrev AreProved : Schema → List Tree → List Dependency → Type 0

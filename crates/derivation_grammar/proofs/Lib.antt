@@ -7,6 +7,5 @@ pub mod OutcomeLemmas
 pub mod ReadLines
 pub mod RuleWords
 pub mod SchemaLines
-pub mod StandIns
 pub mod TextLaws
 pub mod WalkedLines

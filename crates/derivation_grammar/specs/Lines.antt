@@ -1,16 +1,12 @@
--- The lines of a derivation, and how one is read from left to right: for the meaning and the reading of
--- derivations.
-use Rattle.std.specs.Prelude.{ℕ, List, Option, None, Some, option_map, if◌then◌else◌, Result, Ok, ok_or, codes}
+-- The lines of a derivation, which are those of certificates with further rules: for the meaning and the
+-- reading of derivations.
+use Rattle.std.specs.Prelude.{ℕ, List, Option, Some, option_map, if◌then◌else◌, Result, Ok, codes}
 use Rattle.std.specs.Str.{bytes_eq}
-use Rattle.dep_model.specs.Dependencies.{Dependency}
 use Rattle.lexer.specs.Tokens.{Mark}
-use Rattle.lexer.specs.declared.token.TokenKind.{TokenKind}
-use Rattle.lexer.specs.declared.token.TokenKind.TheVariants as token
 use Rattle.schema_grammar.specs.declared.refusal.SchemaRefusal.{SchemaRefusal}
-use Rattle.schema_grammar.specs.declared.refusal.What.TheVariants as what
-use Rattle.schema_grammar.specs.Rests.{Rest, ◌>>=◌, take, refusal_of_token, number_in, number, refusal_at_end, unless}
-use Rattle.proof_grammar.specs.Lines.{Body, body, stated_dependency}
-use Rattle.proof_grammar.specs.Readers.{colon}
+use Rattle.schema_grammar.specs.Rests.{Rest, ◌>>=◌, number}
+use Rattle.proof_grammar.specs.Lines.{NumberedLine, Rules, line_by_from, line_by, Body, body}
+use Rattle.proof_grammar.specs.Readers.{rule_by}
 use Rattle.proof_grammar.specs.Tokens.{rule_word}
 use Rattle.derivation_rules.specs.declared.rule.FurtherRule.TheVariants as further
 use Rattle.derivation_rules.specs.FurtherRules.{Further}
@@ -26,10 +22,8 @@ pub data DerivationBody : Type 0 where
   by_further : Further → ℕ → ℕ → DerivationBody
 
 -- a line of a derivation
-pub record DerivationLine : Type 0 where
-  pub number : ℕ
-  pub stated : Dependency
-  pub body : DerivationBody
+abbrev pub DerivationLine : Type 0
+DerivationLine = NumberedLine DerivationBody
 
 -- ---- the rule
 -- the rule whose name a word is
@@ -43,17 +37,9 @@ line_rule_word word =
     else if bytes_eq word (codes "mpseudotransitivity") then Some (rule.Further further.MPseudotransitivity)
     else option_map rule.Certificate (rule_word word)
 
--- the rule that a token names
-abbrev pub line_rule_named : TokenKind → List ℕ → Option LineRule
-line_rule_named token.Identifier word = line_rule_word word
-line_rule_named _ word = None
-
 -- the rule that the next word names, and what is left
-unfoldable pub line_rule_name : Rest → Result (LineRule × Rest) SchemaRefusal
-line_rule_name r = do
-  t ← take what.Rule r
-  n ← ok_or (line_rule_named t.0.kind t.0.word) (refusal_of_token what.Rule t.0 t.1)
-  Ok (n, t.1)
+abbrev pub line_rule_name : Rest → Result (LineRule × Rest) SchemaRefusal
+line_rule_name r = rule_by line_rule_word r
 
 -- what follows the name of this rule: for a further one, the numbers of its premises
 unfoldable pub derivation_body : List (List ℕ) → LineRule → Rest
@@ -70,17 +56,13 @@ derivation_body names (rule.Further r) start = do
   Ok (by_further (further_of r) p.0 q.0, q.1)
 
 -- ---- the whole line
--- what follows the first token, which is a number: `:`, a dependency, `:`, the rule
-unfoldable pub derivation_line_from : List (List ℕ) → Mark → Rest → Result DerivationLine SchemaRefusal
-derivation_line_from names m rest = do
-  n ← ok_or (number_in m.kind) (refusal_of_token what.Number m rest)
-  c ← colon rest
-  d ← stated_dependency names c
-  e ← colon d.1
-  r ← line_rule_name e
-  b ← derivation_body names r.0 r.1
-  unless (refusal_at_end b.1) (record { number = n; stated = d.0; body = b.0 })
+-- all rules
+abbrev pub derivation_rules : Rules LineRule DerivationBody
+derivation_rules = record { named = line_rule_word; body = derivation_body }
 
--- the whole line
-unfoldable pub derivation_line : List (List ℕ) → Rest → Result DerivationLine SchemaRefusal
-derivation_line names start = take what.Number start >>= λ t. derivation_line_from names t.0 t.1
+-- a line, from its first token on, and the whole line
+abbrev pub derivation_line_from : List (List ℕ) → Mark → Rest → Result DerivationLine SchemaRefusal
+derivation_line_from names m rest = line_by_from derivation_rules names m rest
+
+abbrev pub derivation_line : List (List ℕ) → Rest → Result DerivationLine SchemaRefusal
+derivation_line names start = line_by derivation_rules names start

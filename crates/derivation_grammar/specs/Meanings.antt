@@ -1,16 +1,13 @@
 -- What the lines of a derivation mean, by their grammar, and of which lines a text is a derivation: for
 -- `read_derivation`, and for what a text derives (`Derivations`).
-use Rattle.std.specs.Prelude.{◌≡◌, ◌<◌, ◌≤◌, ◌+◌, ℕ, List, [], ◌∷◌, ◌++◌, All, length, codes}
+use Rattle.std.specs.Prelude.{◌≡◌, ◌<◌, ◌≤◌, ◌+◌, ℕ, List, [], ◌∷◌, All, length, codes}
 use Rattle.std.specs.List.{AllZip}
 use Rattle.schema_model.specs.Schemas.{Schema, names_of, naming_of}
 use Rattle.derivation.specs.declared.measures.TheConstants.{MOST_NODES}
 use Rattle.schema_model.specs.declared.naming.Naming.{Naming}
-use Rattle.lexer.specs.Modes as mode
-use Rattle.lexer.specs.Tokens.{Mark, lex}
-use Rattle.schema_grammar.specs.declared.format.Format.TheVariants as format
-use Rattle.schema_grammar.specs.Meanings.{HasTokens, IsDependency}
+use Rattle.lexer.specs.Tokens.{Mark}
 use Rattle.proof_grammar.specs.Lines.{by_step, by_pair}
-use Rattle.proof_grammar.specs.Meanings.{IsColon, IsNumber, IsKeyword, IsRule, certificate_lines}
+use Rattle.proof_grammar.specs.Meanings.{IsNumber, IsKeyword, MeansLineBy, IsRule, certificate_lines}
 use Rattle.derivation_rules.specs.FurtherRules.{Further}
 use Rattle.derivation_rules.specs.FurtherRules as further
 use Rattle.derivation_grammar.specs.Lines.{DerivationBody, by_rule, by_decomposition, by_further, DerivationLine}
@@ -47,26 +44,9 @@ IsLineRule names ms (by_rule b) = IsRule names ms b
 IsLineRule names ms (by_decomposition p) = IsOverOne ms (codes "decomposition") p
 IsLineRule names ms (by_further r p q) = IsOverTwo ms (further_name r) p q
 
--- number, `:`, a dependency, `:`, the rule
-pub record IsDerivationLine (names : List (List ℕ)) (ms : List Mark) (l : DerivationLine) : Type 0 where
-  pub number : Mark
-  pub first : Mark
-  pub stated : List Mark
-  pub second : Mark
-  pub rule : List Mark
-  pub whole : ms ≡ number ∷ first ∷ stated ++ second ∷ rule
-  pub is_number : IsNumber l.number number
-  pub first_colon : IsColon first
-  pub dependency : IsDependency format.Plain names stated l.stated
-  pub second_colon : IsColon second
-  pub is_rule : IsLineRule names rule l.body
-
--- a text has the tokens of a line
-pub record MeansDerivationLine (naming : Naming) (names : List (List ℕ)) (text : List ℕ)
-    (l : DerivationLine) : Type 0 where
-  pub marks : List Mark
-  pub tokens : HasTokens (lex (mode.numbered naming) text) marks
-  pub is_line : IsDerivationLine names marks l
+-- a text means a line with such a rule
+abbrev pub MeansDerivationLine : Naming → List (List ℕ) → List ℕ → DerivationLine → Type 0
+MeansDerivationLine naming names text l = MeansLineBy DerivationBody IsLineRule naming names text l
 
 -- each text means its line
 abbrev pub MeanDerivationLines : Naming → List (List ℕ) → List (List ℕ) → List DerivationLine → Type 0

@@ -4,7 +4,8 @@ ghost use Rattle.dep_model.specs.Deps.{IsDepWithin};
 ghost use Rattle.tokens.specs.Views.{names_in, rest_of};
 ghost use Rattle.lexer.specs.Tokens.{bytes_of};
 ghost use Rattle.schema_grammar.specs.Declarations.{mark_of};
-ghost use Rattle.derivation_grammar.specs.Lines.{line_rule_word, line_rule_named, line_rule_name, derivation_body, derivation_line_from};
+ghost use Rattle.proof_grammar.specs.Tokens.{named_by};
+ghost use Rattle.derivation_grammar.specs.Lines.{line_rule_word, line_rule_name, derivation_body, derivation_line_from};
 ghost use Rattle.derivation_text.specs.Views.{body_of_line, derivation_line_of};
 
 use attr_sets::MOST_ATTRIBUTES;
@@ -34,7 +35,7 @@ pub struct DerivationLine {
 }
 
 /// A line of which this is the first token, and what is left after it.
-#[tactic(auto, unfolding(derivation_grammar::specs::Lines::derivation_line_from))]
+#[tactic(auto, unfolding(proof_grammar::specs::Lines::line_by_from))]
 pub fn read_line(
     names: &Names<'_>,
     first: Token,
@@ -96,7 +97,7 @@ fn derivation_body<'a>(
 }
 
 /// The name of a rule.
-#[tactic(auto, unfolding(derivation_grammar::specs::Lines::line_rule_name))]
+#[tactic(auto, unfolding(proof_grammar::specs::Readers::rule_by))]
 fn line_rule_name(start: Cursor<'_>) -> Result<(LineRule, Cursor<'_>), SchemaRefusal>
     ensures ok { IfOk result (λ x. line_rule_name (rest_of start.entry) ≡ Ok (x.0, rest_of x.1)) }
     ensures err { IfErr result (λ e. line_rule_name (rest_of start.entry) ≡ Err e) }
@@ -111,8 +112,9 @@ fn line_rule_name(start: Cursor<'_>) -> Result<(LineRule, Cursor<'_>), SchemaRef
 }
 
 /// The rule whose name a token is, in lower case.
+#[tactic(auto, unfolding(proof_grammar::specs::Tokens::named_by))]
 fn line_rule_named(kind: TokenKind, word: &Word<'_>) -> Option<LineRule>
-    ensures exact { result ≡ line_rule_named kind (bytes_of word.now) }
+    ensures exact { result ≡ named_by line_rule_word kind (bytes_of word.now) }
 {
     match kind {
         TokenKind::Identifier => line_rule_word(word.bytes().as_slice()),

@@ -81,7 +81,7 @@ fn finish(before: Vec<DerivationLine>, last: u32) -> Result<Vec<DerivationLine>,
 /// Reads one line of the text. Whether a `yes` may still come is handed in and answered.
 #[tactic(auto, unfolding(derivation_grammar::specs::Texts::read_one, proof_grammar::specs::Texts::line_kind,
 // the first token says what the line is, and is taken as its number
-derivation_grammar::specs::Lines::derivation_line, schema_grammar::specs::Rests::take))]
+proof_grammar::specs::Lines::line_by, schema_grammar::specs::Rests::take))]
 fn read_one(
     schema: &Schema,
     guide: &Guide,

@@ -10,18 +10,24 @@ use Rattle.lexer.specs.Tokens.{Mark}
 use Rattle.schema_grammar.specs.declared.format.Format.TheVariants as format
 use Rattle.schema_grammar.specs.declared.refusal.SchemaRefusal.{SchemaRefusal}
 use Rattle.schema_grammar.specs.Words.{is_reserved, is_reserved_token}
-use Rattle.proof_grammar.specs.declared.rule_name.RuleName.TheVariants as rule
 use Rattle.proof_grammar.specs.Lines.{Line, certificate_line}
-use Rattle.proof_grammar.specs.LineDiagnostics.{TokenForm, token_form, word_form, token_forms, a_number, a_colon, an_arrow, an_empty, a_with, a_rule, a_word, AreLine, BeginLine, TakesNames, FormsWant}
+use Rattle.proof_grammar.specs.LineDiagnostics.{RuleForm, with_none, with_one, with_two, with_set, with_sets, TokenForm, token_form, token_forms, certificate_names, a_number, a_colon, an_arrow, an_empty, a_with, a_rule, a_word, AreLine, BeginLine, TakesNames, FormsWant}
 use Rattle.proof_grammar.specs.Tokens.{is_with, rule_word}
 use Rattle.proof_grammar.proofs.FormShapes.{heading, lhs, rhs, by, wide, narrow, ending, Shape, at_number, at_start, at_side, past, at_rule, at_with, Ends, comes_from, is_final, shape_may_end, runs, runs-append, takes_words, then_turn, shape_after, wanted_by}
 use Rattle.proof_grammar.proofs.JudgedLines.{Judged, WrongAt}
 use Rattle.proof_grammar.proofs.JudgedRules.{line_judged}
 use Rattle.proof_grammar.proofs.LineLaws.{line_reads, marks_read}
-use Rattle.proof_grammar.proofs.TokenLaws.{rule_spelling, named_back, rest_at}
+use Rattle.proof_grammar.proofs.TokenLaws.{rest_at}
 use Rattle.schema_grammar.specs.DiagnosticKinds.{DiagnosticKind}
 
--- ---- a token of each form, over names that are all words of the grammar, and one more
+-- ---- a token of each form, over names that are a rule of each form, `with` and one more
+abbrev sample_rule : RuleForm → List ℕ
+sample_rule with_none = codes "reflexivity"
+sample_rule with_one = codes "complementation"
+sample_rule with_two = codes "transitivity"
+sample_rule with_set = codes "augmentation"
+sample_rule with_sets = codes "maugmentation"
+
 abbrev sample_of : TokenKind → List ℕ → Mark
 sample_of k word = record { kind = k; column = 0; length = length word; word = word }
 
@@ -31,21 +37,21 @@ sample_mark a_colon = sample_of token.Colon (codes "a")
 sample_mark an_arrow = sample_of token.Arrow (codes "a")
 sample_mark an_empty = sample_of token.Empty (codes "a")
 sample_mark a_with = sample_of token.Identifier (codes "with")
-sample_mark (a_rule r) = sample_of token.Identifier (rule_spelling r)
+sample_mark (a_rule r) = sample_of token.Identifier (sample_rule r)
 sample_mark a_word = sample_of token.Identifier (codes "a")
 
 abbrev all_words : List (List ℕ)
 all_words =
-    codes "a" ∷ codes "with" ∷ codes "given" ∷ codes "reflexivity" ∷ codes "augmentation" ∷ codes "transitivity"
-    ∷ codes "complementation" ∷ codes "mreflexivity" ∷ codes "maugmentation" ∷ codes "mtransitivity"
-    ∷ codes "replication" ∷ codes "coalescence" ∷ []
+    codes "a" ∷ codes "with" ∷ codes "reflexivity" ∷ codes "complementation" ∷ codes "transitivity" ∷ codes "augmentation"
+    ∷ codes "maugmentation" ∷ []
 
-sample_form : (f : TokenForm) → token_form (sample_mark f).kind (sample_mark f).word ≡ f
+sample_form : (f : TokenForm)
+    → token_form (certificate_names all_words) (sample_mark f).kind (sample_mark f).word ≡ f
 unfolding is_with rule_word
-sample_form (a_rule r) = ap (λ o. word_form o (is_with token.Identifier (rule_spelling r))) (named_back r)
+sample_form (a_rule with_none) = refl
 sample_form _ = refl
 
-sample_forms : (fs : List TokenForm) → token_forms (map sample_mark fs) ≡ fs
+sample_forms : (fs : List TokenForm) → token_forms (certificate_names all_words) (map sample_mark fs) ≡ fs
 sample_forms [] = refl
 sample_forms (f ∷ fs) = (λ i. sample_form f i ∷ sample_forms fs i)
 
@@ -53,16 +59,16 @@ sample_forms (f ∷ fs) = (λ i. sample_form f i ∷ sample_forms fs i)
 sample_is_name : (f : TokenForm) → (index : ℕ) × (attribute_named all_words (sample_mark f).word ≡ Some index)
     × (is_reserved_token format.Plain (sample_mark f).kind (sample_mark f).word ≡ false)
 unfolding is_reserved
-sample_is_name (a_rule rule.Given) = (_, refl, refl)
+sample_is_name (a_rule with_none) = (_, refl, refl)
 sample_is_name _ = (_, refl, refl)
 
 -- nothing is wrong with samples that lead to an end
 sample_fine : (o : Option Shape) (fs : List TokenForm) (last : Shape) (p : ℕ) (n : DiagnosticKind) → runs o fs ≡ Some last
     → is_final last ≡ true
-    → WrongAt all_words None n (runs o (take p (token_forms (map sample_mark fs)))) (slice_get (map sample_mark fs) p) → ⊥
+    → WrongAt (certificate_names all_words) None n (runs o (take p (token_forms (certificate_names all_words) (map sample_mark fs)))) (slice_get (map sample_mark fs) p) → ⊥
 sample_fine o (f ∷ fs) last (suc p) n leads final h =
-    sample_fine (then_turn o f) fs last p n leads final (subst (λ g. WrongAt all_words None n
-    (runs (then_turn o g) (take p (token_forms (map sample_mark fs)))) (slice_get (map sample_mark fs) p)) (sample_form f) h)
+    sample_fine (then_turn o f) fs last p n leads final (subst (λ g. WrongAt (certificate_names all_words) None n
+    (runs (then_turn o g) (take p (token_forms (certificate_names all_words) (map sample_mark fs)))) (slice_get (map sample_mark fs) p)) (sample_form f) h)
 sample_fine None (f ∷ fs) last zero n leads final h = h
 sample_fine (Some s) (f ∷ fs) last zero n leads final (inl (takes, (word, inl three))) =
     true≢false (sym three.1 ∙ (sample_is_name f).2)
@@ -83,7 +89,7 @@ final_line fs s leads final = by_cases (certificate_line all_words (rest_at 1 1 
     (line_judged all_words 1 1 (map sample_mark fs) None)
   where
     by_cases : (r : Result Line SchemaRefusal) → certificate_line all_words (rest_at 1 1 (map sample_mark fs)) ≡ r
-        → Judged at_start all_words 1 1 (map sample_mark fs) None r → AreLine fs
+        → Judged at_start (certificate_names all_words) 1 1 (map sample_mark fs) None r → AreLine fs
     by_cases (Ok l) read judged =
         let reads = line_reads all_words (rest_at 1 1 (map sample_mark fs)) l read in
         record {
@@ -101,8 +107,8 @@ pub line_ends : (fs : List TokenForm) → AreLine fs → Ends at_start fs
 line_ends fs is =
     let read = marks_read is.names 1 1 is.marks is.line is.is_line in
     let judged = line_judged is.names 1 1 is.marks None in
-    let ok : Judged at_start is.names 1 1 is.marks None (Ok is.line) =
-    subst (Judged at_start is.names 1 1 is.marks None) read judged in
+    let ok : Judged at_start (certificate_names is.names) 1 1 is.marks None (Ok is.line) =
+    subst (Judged at_start (certificate_names is.names) 1 1 is.marks None) read judged in
     subst (Ends at_start) is.same_forms ok.0
 
 pub begins_from : (fs : List TokenForm) (s : Shape) → runs (Some at_start) fs ≡ Some s → BeginLine fs
@@ -159,6 +165,6 @@ wants_from fs (past words by) leads = final_line fs (past words by) leads refl
 wants_from fs (past words narrow) leads = final_line fs (past words narrow) leads refl
 wants_from fs (past words ending) leads = final_line fs (past words ending) leads refl
 wants_from fs at_rule leads =
-    (on_begins fs (a_rule rule.Given) at_rule _ leads refl, λ names. false≢true ((names_at fs at_rule leads).1 names))
+    (on_begins fs (a_rule with_none) at_rule _ leads refl, λ names. false≢true ((names_at fs at_rule leads).1 names))
 wants_from fs (at_with k) leads =
     (on_begins fs a_with (at_with k) _ leads refl, λ names. false≢true ((names_at fs (at_with k) leads).1 names))

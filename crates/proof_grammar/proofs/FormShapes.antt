@@ -1,10 +1,8 @@
--- How far a line of a certificate is read, by the forms of its tokens.
+-- How far a line is read, by the forms of its tokens.
 use Rattle.std.proofs.Common.{◌≡◌, Bool, true, false, List, [], ◌∷◌, ◌++◌, Option, Some, None, refl}
 use Rattle.schema_grammar.specs.declared.refusal.What.{What}
 use Rattle.schema_grammar.specs.declared.refusal.What.TheVariants as what
-use Rattle.proof_grammar.specs.declared.rule_name.RuleName.{RuleName}
-use Rattle.proof_grammar.specs.declared.rule_name.RuleName.TheVariants as rule
-use Rattle.proof_grammar.specs.LineDiagnostics.{TokenForm, a_number, a_colon, an_arrow, an_empty, a_with, a_rule, a_word}
+use Rattle.proof_grammar.specs.LineDiagnostics.{RuleForm, with_none, with_one, with_two, with_set, with_sets, TokenForm, a_number, a_colon, an_arrow, an_empty, a_with, a_rule, a_word}
 
 -- the parts of a line that a colon, an arrow or the line's end follows: its number, the sides of its
 -- dependency, that of an augmentation, those of a wide one, and a rule without sets
@@ -66,17 +64,12 @@ shape_in_side k (a_rule r) = Some (past true k)
 shape_in_side k a_word = Some (past true k)
 shape_in_side k _ = None
 
-abbrev pub shape_of_rule : RuleName → Shape
-shape_of_rule rule.Given = at_number nothing
-shape_of_rule rule.Reflexivity = past false ending
-shape_of_rule rule.Augmentation = at_number (sets by)
-shape_of_rule rule.Transitivity = at_number second
-shape_of_rule rule.Complementation = at_number nothing
-shape_of_rule rule.MReflexivity = past false ending
-shape_of_rule rule.MAugmentation = at_number (sets wide)
-shape_of_rule rule.MTransitivity = at_number second
-shape_of_rule rule.Replication = at_number nothing
-shape_of_rule rule.Coalescence = at_number second
+abbrev pub shape_of_rule : RuleForm → Shape
+shape_of_rule with_none = past false ending
+shape_of_rule with_one = at_number nothing
+shape_of_rule with_two = at_number second
+shape_of_rule with_set = at_number (sets by)
+shape_of_rule with_sets = at_number (sets wide)
 
 abbrev pub past_number : After → Shape
 past_number first = past false heading
@@ -153,11 +146,11 @@ MayEnd s = (rest : List TokenForm) × Ends s rest
 
 part_ends : (words : Bool) (k : Part) → MayEnd (past words k)
 part_ends words heading = (
-  a_colon ∷ an_empty ∷ an_arrow ∷ an_empty ∷ a_colon ∷ a_rule rule.Reflexivity ∷ [],
+  a_colon ∷ an_empty ∷ an_arrow ∷ an_empty ∷ a_colon ∷ a_rule with_none ∷ [],
   (past false ending, refl, refl),
 )
-part_ends words lhs = (an_arrow ∷ an_empty ∷ a_colon ∷ a_rule rule.Reflexivity ∷ [], (past false ending, refl, refl))
-part_ends words rhs = (a_colon ∷ a_rule rule.Reflexivity ∷ [], (past false ending, refl, refl))
+part_ends words lhs = (an_arrow ∷ an_empty ∷ a_colon ∷ a_rule with_none ∷ [], (past false ending, refl, refl))
+part_ends words rhs = (a_colon ∷ a_rule with_none ∷ [], (past false ending, refl, refl))
 part_ends words wide = (a_colon ∷ an_empty ∷ [], (past false narrow, refl, refl))
 part_ends words by = ([], (past words by, refl, refl))
 part_ends words narrow = ([], (past words narrow, refl, refl))
@@ -170,5 +163,5 @@ shape_may_end (at_number second) = (a_number ∷ a_number ∷ [], (past false en
 shape_may_end (at_number (sets k)) = let more = part_ends false k in (a_number ∷ a_with ∷ an_empty ∷ more.0, more.1)
 shape_may_end (at_side k) = let more = part_ends false k in (an_empty ∷ more.0, more.1)
 shape_may_end (past words k) = part_ends words k
-shape_may_end at_rule = (a_rule rule.Reflexivity ∷ [], (past false ending, refl, refl))
+shape_may_end at_rule = (a_rule with_none ∷ [], (past false ending, refl, refl))
 shape_may_end (at_with k) = let more = part_ends false k in (a_with ∷ an_empty ∷ more.0, more.1)

@@ -1,5 +1,5 @@
--- What is printed of a line means the line.
-use Rattle.std.proofs.Common.{◌≡◌, ◌+◌, ◌∙◌, ap, ℕ, List, [], ◌∷◌, ◌++◌, length, refl, append_assoc}
+-- What is printed of a line means the line: of any rules, where the parts of the rule do, and so of a certificate's.
+use Rattle.std.proofs.Common.{◌≡◌, ◌<◌, ◌+◌, ◌^◌, ◌∙◌, ap, ℕ, List, [], ◌∷◌, ◌++◌, length, refl, append_assoc}
 use Rattle.std.specs.Prelude.{codes, decimal, map}
 use Rattle.std.proofs.lemmas.List.{append-nil}
 use Rattle.attr_sets.specs.Attributes.{Attributes, IsSubset, below}
@@ -16,8 +16,8 @@ use Rattle.schema_grammar.specs.Meanings.{IsArrow, IsDependency}
 use Rattle.schema_printer.specs.Printing.{members_from, set_text, side_text, dependency_text}
 use Rattle.schema_printer.specs.Spelling.{spelling}
 use Rattle.schema_grammar.proofs.PrintedTexts.{Bytes}
-use Rattle.proof_grammar.specs.Lines.{Body, by_given, by_reflexivity, by_mreflexivity, by_step, by_pair, Line}
-use Rattle.proof_grammar.specs.Meanings.{step_name, pair_name, IsRule, MeansLine}
+use Rattle.proof_grammar.specs.Lines.{NumberedLine, Body, by_given, by_reflexivity, by_mreflexivity, by_step, by_pair, Line}
+use Rattle.proof_grammar.specs.Meanings.{step_name, pair_name, MeansLineBy, IsRule}
 use Rattle.proof_grammar.specs.Printing.{step_word, pair_word, body_text, certificate_line_text, IsBodyWithin}
 use Rattle.schema_grammar.specs.Printed.{AreReadBack}
 use Rattle.proof_grammar.specs.Printable.{DigitsFit, IsPrintableLine}
@@ -26,7 +26,7 @@ use Rattle.schema_grammar.proofs.SpelledWords.{side_marks, side_end, members_spe
 use Rattle.proof_grammar.proofs.PrintedTokens.{Part, keyword, number, side, Gap, blank, first_colon, colon, arrow, double_arrow, gap_end, text_of, marks_of, AreProper, parts_lexed, parts_bytes}
 
 -- ---- the parts of a line
-abbrev side_of : List (List ℕ) → Attributes → Part
+abbrev pub side_of : List (List ℕ) → Attributes → Part
 side_of names x = side (members_from x 0 names)
 
 -- the sets of a rule with one premise
@@ -52,19 +52,22 @@ body_parts names by_mreflexivity = []
 body_parts names (by_step rule p) = (blank, number p) ∷ sets_parts names rule
 body_parts names (by_pair rule p q) = (blank, number p) ∷ (blank, number q) ∷ []
 
-abbrev arrow_of : Dependency → Gap
+abbrev pub arrow_of : Dependency → Gap
 arrow_of (fd x y) = arrow
 arrow_of (mvd x y) = double_arrow
 
--- what follows the number of the line
-abbrev line_parts : List (List ℕ) → Line → List (Gap × Part)
-line_parts names l =
-    (first_colon, side_of names (left_of l.stated)) ∷ (arrow_of l.stated, side_of names (right_of l.stated))
-    ∷ (colon, keyword (body_name l.body)) ∷ body_parts names l.body
+-- what follows the number of a line that states this by a rule of this name and with these parts
+abbrev pub line_parts : List (List ℕ) → Dependency → List ℕ → List (Gap × Part) → List (Gap × Part)
+line_parts names d word others =
+    (first_colon, side_of names (left_of d)) ∷ (arrow_of d, side_of names (right_of d)) ∷ (colon, keyword word) ∷ others
 
--- what is printed of a line, without its line feed
+-- what is printed of such a line, without its line feed
+abbrev pub text_of_parts : Naming → List (List ℕ) → ℕ → Dependency → List ℕ → List (Gap × Part) → List ℕ
+text_of_parts naming names n d word others = text_of naming (number n) (line_parts names d word others)
+
+-- and of one of a certificate
 abbrev pub text_of_line : Naming → List (List ℕ) → Line → List ℕ
-text_of_line naming names l = text_of naming (number l.number) (line_parts names l)
+text_of_line naming names l = text_of_parts naming names l.number l.stated (body_name l.body) (body_parts names l.body)
 
 -- ---- the text
 body_is : (naming : Naming) (names : List (List ℕ)) (b : Body)
@@ -88,7 +91,7 @@ body_is naming names (by_pair transitivity p q) = simp append_assoc
 body_is naming names (by_pair mtransitivity p q) = simp append_assoc
 body_is naming names (by_pair coalescence p q) = simp append_assoc
 
-dependency_is : (naming : Naming) (names : List (List ℕ)) (d : Dependency) (rest : List ℕ)
+pub dependency_is : (naming : Naming) (names : List (List ℕ)) (d : Dependency) (rest : List ℕ)
     → dependency_text (map (spelling naming) names) d ++ rest
     ≡ text_of naming (side_of names (left_of d)) ((arrow_of d, side_of names (right_of d)) ∷ []) ++ rest
 unfolding dependency_text set_text
@@ -97,13 +100,21 @@ dependency_is naming names (fd x y) rest =
 dependency_is naming names (mvd x y) rest =
     rw (members_spelled naming x 0 names, members_spelled naming y 0 names) (simp append_assoc)
 
-pub line_text_is : (naming : Naming) (names : List (List ℕ)) (l : Line)
+line_text_is : (naming : Naming) (names : List (List ℕ)) (l : Line)
     → certificate_line_text (map (spelling naming) names) l ≡ text_of_line naming names l ++ codes "\n"
 unfolding certificate_line_text
 line_text_is naming names l =
     rw (body_is naming names l.body) (simp (append_assoc, dependency_is naming names l.stated))
 
 -- ---- the parts are proper
+pub line_proper : (naming : Naming) (names : List (List ℕ)) (d : Dependency) (word : List ℕ) (others : List (Gap × Part))
+    → AreReadBack format.Plain naming names → AreProper naming ((colon, keyword word) ∷ others)
+    → AreProper naming (line_parts names d word others)
+line_proper naming names d word others are proper = (
+  printed_names format.Plain naming names (left_of d) are,
+  (printed_names format.Plain naming names (right_of d) are, proper),
+)
+
 body_proper : (naming : Naming) (names : List (List ℕ)) (b : Body) → AreReadBack format.Plain naming names
     → DigitsFit b → AreProper naming ((colon, keyword (body_name b)) ∷ body_parts names b)
 body_proper naming names (by_given k) are within_limit = (refl, (within_limit, tt))
@@ -118,18 +129,6 @@ body_proper naming names (by_step replication p) are within_limit = (refl, (with
 body_proper naming names (by_pair transitivity p q) are within_limit = (refl, (within_limit.0, (within_limit.1, tt)))
 body_proper naming names (by_pair mtransitivity p q) are within_limit = (refl, (within_limit.0, (within_limit.1, tt)))
 body_proper naming names (by_pair coalescence p q) are within_limit = (refl, (within_limit.0, (within_limit.1, tt)))
-
-line_proper : (naming : Naming) (names : List (List ℕ)) (l : Line) → AreReadBack format.Plain naming names
-    → IsPrintableLine names l → AreProper naming (line_parts names l)
-line_proper naming names l are is = (
-  printed_names format.Plain naming names (left_of l.stated) are,
-  (printed_names format.Plain naming names (right_of l.stated) are, body_proper naming names l.body are is.digits_fit),
-)
-
-pub line_bytes : (naming : Naming) (names : List (List ℕ)) (l : Line) → AreReadBack format.Plain naming names
-    → IsPrintableLine names l → Bytes (text_of_line naming names l)
-line_bytes naming names l are is =
-    parts_bytes naming (number l.number) (line_parts names l) is.number (line_proper naming names l are is)
 
 -- ---- the meaning
 body_means : (naming : Naming) (names : List (List ℕ)) (b : Body) (column : ℕ)
@@ -226,27 +225,64 @@ dependency_means naming names (fd x y) column are within =
 dependency_means naming names (mvd x y) column are within =
     printed_sides naming names x y sign.Multivalued column _ _ are within.0 within.1 refl
 
-pub printed_means : (naming : Naming) (names : List (List ℕ)) (l : Line) → AreReadBack format.Plain naming names
-    → IsPrintableLine names l → MeansLine naming names (text_of_line naming names l) l
-printed_means naming names l are is =
-    let at = 1 + length (decimal l.number) + 1 + 1 in
-    let end = side_end naming (gap_end (side_end naming at (members_from (left_of l.stated) 0 names)) (arrow_of l.stated))
-    (members_from (right_of l.stated) 0 names) in
-    let rule = marks_of naming (gap_end end colon) (keyword (body_name l.body)) (body_parts names l.body) in
+-- a line that is printed: its text, the bytes of which are none that end a line, and which means the line
+pub record IsPrinted (B : Type 0) (IsBody : List (List ℕ) → List Mark → B → Type 0) (naming : Naming)
+    (names : List (List ℕ)) (line_text : NumberedLine B → List ℕ) (l : NumberedLine B) : Type 0 where
+  pub text : List ℕ
+  pub printed : line_text l ≡ text ++ codes "\n"
+  pub bytes : Bytes text
+  pub means : MeansLineBy B IsBody naming names text l
+  pub rest : List ℕ
+  pub begins : text ≡ decimal l.number ++ rest
+  pub number : l.number < 10 ^ 9
+
+-- a line whose rule has this name and these parts, where they are a body
+pub parts_printed : {B : Type 0} (IsBody : List (List ℕ) → List Mark → B → Type 0) (naming : Naming)
+    (names : List (List ℕ)) (line_text : NumberedLine B → List ℕ) (l : NumberedLine B) (word : List ℕ)
+    (others : List (Gap × Part)) → AreReadBack format.Plain naming names → IsWithin (below (length names)) l.stated
+    → l.number < 10 ^ 9 → AreProper naming ((colon, keyword word) ∷ others)
+    → ((column : ℕ) → IsBody names (marks_of naming column (keyword word) others) l.body)
+    → line_text l ≡ text_of_parts naming names l.number l.stated word others ++ codes "\n"
+    → IsPrinted B IsBody naming names line_text l
+parts_printed IsBody naming names line_text l word others are within small fit rule_is printed =
+    let n = l.number in
+    let d = l.stated in
+    let parts = line_parts names d word others in
+    let proper = line_proper naming names d word others are fit in
+    let at = 1 + length (decimal n) + 1 + 1 in
+    let end = side_end naming (gap_end (side_end naming at (members_from (left_of d) 0 names)) (arrow_of d))
+    (members_from (right_of d) 0 names) in
     record {
-      marks = marks_of naming 1 (number l.number) (line_parts names l);
-      tokens = parts_lexed naming 1 (number l.number) (line_parts names l) is.number (line_proper naming names l are is);
-      is_line = record {
-        number = record { kind = token.Number l.number; column = 1; length = length (decimal l.number); word = decimal l.number };
-        first = record { kind = token.Colon; column = 1 + length (decimal l.number); length = length (codes ":"); word = codes ":" };
-        stated = stated_marks naming names l.stated at;
-        second = record { kind = token.Colon; column = end + 1; length = length (codes ":"); word = codes ":" };
-        rule = rule;
-        whole = simp append_assoc;
-        is_number = refl;
-        first_colon = refl;
-        dependency = dependency_means naming names l.stated at are is.stated;
-        second_colon = refl;
-        is_rule = body_means naming names l.body (gap_end end colon) are is.body;
+      text = text_of naming (number n) parts;
+      printed = printed;
+      bytes = parts_bytes naming (number n) parts small proper;
+      means = record {
+        marks = marks_of naming 1 (number n) parts;
+        tokens = parts_lexed naming 1 (number n) parts small proper;
+        is_line = record {
+          number = record { kind = token.Number n; column = 1; length = length (decimal n); word = decimal n };
+          first = record { kind = token.Colon; column = 1 + length (decimal n); length = length (codes ":"); word = codes ":" };
+          stated = stated_marks naming names d at;
+          second = record { kind = token.Colon; column = end + 1; length = length (codes ":"); word = codes ":" };
+          rule = marks_of naming (gap_end end colon) (keyword word) others;
+          whole = simp append_assoc;
+          is_number = refl;
+          first_colon = refl;
+          dependency = dependency_means naming names d at are within;
+          second_colon = refl;
+          is_rule = rule_is (gap_end end colon);
+        };
       };
+      rest = _;
+      begins = refl;
+      number = small;
     }
+
+-- a line of a certificate
+pub line_printed : (naming : Naming) (names : List (List ℕ)) (l : Line) → AreReadBack format.Plain naming names
+    → IsPrintableLine names l
+    → IsPrinted Body IsRule naming names (certificate_line_text (map (spelling naming) names)) l
+line_printed naming names l are is =
+    parts_printed IsRule naming names (certificate_line_text (map (spelling naming) names)) l (body_name l.body)
+    (body_parts names l.body) are is.stated is.number (body_proper naming names l.body are is.digits_fit)
+    (λ column. body_means naming names l.body column are is.body) (line_text_is naming names l)

@@ -1,4 +1,5 @@
--- The rule of a line is read exactly where the grammar has one.
+-- The rule of a line is read exactly where the grammar has one: what that asks of any rules, and that it
+-- holds of the ten of certificates.
 use Rattle.std.proofs.Common.{◌≡◌, ℕ, List, [], ◌∷◌, ◌++◌, None, Ok, refl, sym, ◌∙◌, ap, subst}
 use Rattle.std.specs.Prelude.{codes}
 use Rattle.std.proofs.lemmas.List.{append-nil}
@@ -9,15 +10,38 @@ use Rattle.lexer.specs.Tokens.{Mark}
 use Rattle.schema_grammar.specs.declared.refusal.What.TheVariants as what
 use Rattle.proof_grammar.specs.declared.rule_name.RuleName.{RuleName}
 use Rattle.proof_grammar.specs.declared.rule_name.RuleName.TheVariants as rule
-use Rattle.proof_grammar.specs.Lines.{Body, by_given, by_reflexivity, by_mreflexivity, by_step, by_pair, one_premise, two_premises, augmentation_body, maugmentation_body, body}
+use Rattle.proof_grammar.specs.Lines.{Body, by_given, by_reflexivity, by_mreflexivity, by_step, by_pair, one_premise, two_premises, augmentation_body, maugmentation_body, Rules, body, certificate_rules}
 use Rattle.proof_grammar.specs.Meanings.{IsNumber, IsKeyword, pair_name, IsRule, step_name, HasSets}
 use Rattle.schema_grammar.specs.Rests.{Rest, ◌>>=◌, take, number, side}
 use Rattle.schema_grammar.specs.Words.{is_word_token}
-use Rattle.proof_grammar.specs.Readers.{colon, with_word, rule_name}
-use Rattle.proof_grammar.specs.Tokens.{is_with, rule_named, rule_word}
+use Rattle.proof_grammar.specs.Readers.{colon, with_word, rule_by}
+use Rattle.proof_grammar.specs.Tokens.{is_with, named_by, rule_word}
 use Rattle.proof_grammar.proofs.CheckedLemmas.{bind_ok}
 use Rattle.proof_grammar.proofs.SideLaws.{side_there, side-from}
-use Rattle.proof_grammar.proofs.TokenLaws.{reads_value, rule_spelling, after_of, number_there, colon_there, with_there, rule_named_there, rest_at, named_back}
+use Rattle.proof_grammar.proofs.TokenLaws.{reads_value, rule_spelling, after_of, number_there, colon_there, with_there, rule_word_there, named_there, rest_at, named_back}
+
+-- ---- any rules
+-- a rule that is read, up to the end of a line
+pub record RuleEnds (B : Type 0) (IsBody : List (List ℕ) → List Mark → B → Type 0) (names : List (List ℕ)) (r : Rest)
+    (b : B) (next : Rest) : Type 0 where
+  pub is_rule : next.marks ≡ [] → IsBody names r.marks b
+  pub stop : next.stop ≡ r.stop
+
+-- a rule that is read from a column
+pub record RuleRead (R B : Type 0) (rules : Rules R B) (names : List (List ℕ)) (line from : ℕ) (marks : List Mark) (b : B)
+    : Type 0 where
+  pub rule : R
+  pub next : Rest
+  pub next_column : ℕ
+  pub name : rule_by rules.named (rest_at line from marks) ≡ Ok (rule, next)
+  pub read : rules.body names rule next ≡ Ok (b, rest_at line next_column [])
+
+-- rules are read exactly where tokens are a body
+pub record AreRead (R B : Type 0) (rules : Rules R B) (IsBody : List (List ℕ) → List Mark → B → Type 0) : Type 0 where
+  pub there : (names : List (List ℕ)) (r : Rest) (n : R × Rest) (b : B × Rest) → rule_by rules.named r ≡ Ok n
+      → rules.body names n.0 n.1 ≡ Ok b → RuleEnds B IsBody names r b.0 b.1
+  pub back : (names : List (List ℕ)) (line from : ℕ) (marks : List Mark) (b : B) → IsBody names marks b
+      → RuleRead R B rules names line from marks b
 
 -- ---- what follows the name
 -- a rule that is read after its name, up to the end of a line
@@ -168,16 +192,12 @@ body_there names rule.Transitivity name start b says e = two_premises_there name
 body_there names rule.MTransitivity name start b says e = two_premises_there names mtransitivity name start b says e
 body_there names rule.Coalescence name start b says e = two_premises_there names coalescence name start b says e
 
--- a rule that is read, up to the end of a line
-pub record RuleEnds (names : List (List ℕ)) (r : Rest) (b : Body) (next : Rest) : Type 0 where
-  pub is_rule : next.marks ≡ [] → IsRule names r.marks b
-  pub stop : next.stop ≡ r.stop
-
-pub rule_there : (names : List (List ℕ)) (r : Rest) (n : RuleName × Rest) (b : Body × Rest) → rule_name r ≡ Ok n → body names n.0 n.1 ≡ Ok b → RuleEnds names r b.0 b.1
-unfolding rule_name
+pub rule_there : (names : List (List ℕ)) (r : Rest) (n : RuleName × Rest) (b : Body × Rest)
+    → rule_by rule_word r ≡ Ok n → body names n.0 n.1 ≡ Ok b → RuleEnds Body IsRule names r b.0 b.1
+unfolding rule_by
 rule_there names r n b here there =
-    let name = reads_value what.Rule (λ m. rule_named m.kind m.word) (λ x. IsKeyword (rule_spelling x))
-    (λ x m h. rule_named_there m.kind m.word x h) r n here in
+    let name = reads_value what.Rule (λ m. named_by rule_word m.kind m.word) (λ x. IsKeyword (rule_spelling x))
+    (λ x m h. let is = named_there rule_word m.kind m.word x h in (is.0, rule_word_there m.word x is.1)) r n here in
     let reads = body_there names n.0 name.mark n.1 b name.holds there in
     let of : List Mark → Type 0 = λ t. IsRule names t b.0 in
     record {
@@ -191,19 +211,15 @@ record BodyRead (names : List (List ℕ)) (line from : ℕ) (r : RuleName) (mark
   next_column : ℕ
   read : body names r (rest_at line from marks) ≡ Ok (b, rest_at line next_column [])
 
--- a rule that is read from a column
-pub record RuleRead (names : List (List ℕ)) (line from : ℕ) (marks : List Mark) (b : Body) : Type 0 where
-  pub rule : RuleName
-  pub next : Rest
-  pub next_column : ℕ
-  pub name : rule_name (rest_at line from marks) ≡ Ok (rule, next)
-  pub read : body names rule next ≡ Ok (b, rest_at line next_column [])
+-- one of the ten
+abbrev OneRead : List (List ℕ) → ℕ → ℕ → List Mark → Body → Type 0
+OneRead names line from marks b = RuleRead RuleName Body certificate_rules names line from marks b
 
 rule_made : {names : List (List ℕ)} {line from : ℕ} {whole : List Mark} {b : Body} (r : RuleName) (m : Mark)
     (marks : List Mark)
     → whole ≡ m ∷ marks → IsKeyword (rule_spelling r) m
-    → BodyRead names line (after_of m) r marks b → RuleRead names line from whole b
-unfolding rule_name take rule_named
+    → BodyRead names line (after_of m) r marks b → OneRead names line from whole b
+unfolding rule_by take named_by
 rule_made {names} {line} r m marks same says rest = record {
   rule = r;
   next = rest_at line (after_of m) marks;
@@ -212,7 +228,8 @@ rule_made {names} {line} r m marks same says rest = record {
   read = rest.read;
 }
 
-pub rule_back : (names : List (List ℕ)) (line from : ℕ) (marks : List Mark) (b : Body) → IsRule names marks b → RuleRead names line from marks b
+pub rule_back : (names : List (List ℕ)) (line from : ℕ) (marks : List Mark) (b : Body) → IsRule names marks b
+    → OneRead names line from marks b
 unfolding body one_premise two_premises augmentation_body maugmentation_body number with_word colon take is_with
 rule_back names line from marks (by_given k) is =
     rule_made rule.Given is.name (is.numeral ∷ []) is.whole is.says
@@ -259,3 +276,6 @@ rule_back names line from marks (by_pair mtransitivity p q) is =
 rule_back names line from marks (by_pair coalescence p q) is =
     rule_made rule.Coalescence is.name (is.first ∷ is.second ∷ []) is.whole is.says
     (record { next_column = after_of is.second; read = rw (is.first_number, is.second_number) refl })
+
+pub ten_are_read : AreRead RuleName Body certificate_rules IsRule
+ten_are_read = record { there = rule_there; back = rule_back }

@@ -16,7 +16,7 @@ use Rattle.proof_grammar.specs.declared.rule_name.RuleName.TheVariants as rule
 use Rattle.proof_grammar.specs.Meanings.{IsColon, IsNumber, IsKeyword}
 use Rattle.schema_grammar.specs.Rests.{number_in, Rest, ◌>>=◌, take, refusal_of_token, number}
 use Rattle.proof_grammar.specs.Readers.{colon, with_word}
-use Rattle.proof_grammar.specs.Tokens.{is_with, rule_named, rule_word}
+use Rattle.proof_grammar.specs.Tokens.{is_with, named_by, rule_word}
 use Rattle.proof_grammar.proofs.CheckedLemmas.{bind_ok}
 use Rattle.proof_grammar.proofs.SideLaws.{Takes, take_there}
 
@@ -101,19 +101,23 @@ peel word first r others more e =
     (λ (other : bytes_eq word (rule_spelling first) ≡ false). more (rw other at e))
     (cases_Bool (bytes_eq word (rule_spelling first)))
 
-pub rule_named_there : (k : TokenKind) (word : List ℕ) (r : RuleName) → rule_named k word ≡ Some r
-    → (k ≡ token.Identifier) × (word ≡ rule_spelling r)
-unfolding rule_named rule_word
-rule_named_there token.Identifier word r e = (
-  refl,
-  peel word rule.Given r _
-      (peel word rule.Reflexivity r _
-      (peel word rule.Augmentation r _ (peel word rule.Transitivity r _ (peel word rule.Complementation r _
-      (peel word rule.MReflexivity r _
-      (peel word rule.MAugmentation r _ (peel word rule.MTransitivity r _ (peel word rule.Replication r _
-      (peel word rule.Coalescence r _ (λ none. cc)))))))))) e,
-)
-rule_named_there _ word r e = cc
+-- a word that names one of the ten is its name
+pub rule_word_there : (word : List ℕ) (r : RuleName) → rule_word word ≡ Some r → word ≡ rule_spelling r
+unfolding rule_word
+rule_word_there word r e =
+    peel word rule.Given r _
+    (peel word rule.Reflexivity r _
+    (peel word rule.Augmentation r _ (peel word rule.Transitivity r _ (peel word rule.Complementation r _
+    (peel word rule.MReflexivity r _
+    (peel word rule.MAugmentation r _ (peel word rule.MTransitivity r _ (peel word rule.Replication r _
+    (peel word rule.Coalescence r _ (λ none. cc)))))))))) e
+
+-- a token that names a rule is a word that does
+pub named_there : {R : Type 0} (named : List ℕ → Option R) (k : TokenKind) (word : List ℕ) (r : R)
+    → named_by named k word ≡ Some r → (k ≡ token.Identifier) × (named word ≡ Some r)
+unfolding named_by
+named_there named token.Identifier word r e = (refl, e)
+named_there named _ word r e = cc
 
 -- ---- back
 -- what is left of a line that ends with its tokens

@@ -1,5 +1,5 @@
--- What the lines of a certificate mean, by their grammar: for what a certificate spells
--- (`Spelling`).
+-- What the lines of certificates mean, by their grammar, which is that of derivations too: for what a
+-- certificate spells (`Spelling`).
 use Rattle.std.specs.Prelude.{◌≡◌, ℕ, Bool, false, ◌&&◌, not, if◌then◌else◌, List, [], ◌∷◌, ◌++◌, filter, Option, codes}
 use Rattle.std.specs.List.{AllZip}
 use Rattle.attr_sets.specs.Attributes.{Attributes}
@@ -12,7 +12,7 @@ use Rattle.lexer.specs.Lines.{line_texts, without_mark}
 use Rattle.lexer.specs.Tokens.{Mark, Lexed, lex}
 use Rattle.schema_grammar.specs.declared.format.Format.TheVariants as format
 use Rattle.schema_grammar.specs.Meanings.{HasTokens, IsSide, IsDependency}
-use Rattle.proof_grammar.specs.Lines.{Body, by_given, by_reflexivity, by_mreflexivity, by_step, by_pair, Line}
+use Rattle.proof_grammar.specs.Lines.{NumberedLine, Body, by_given, by_reflexivity, by_mreflexivity, by_step, by_pair, Line}
 use Rattle.proof_grammar.specs.Texts.{is_yes, is_blank, is_blank_from}
 
 -- ---- the lines that count
@@ -41,6 +41,7 @@ abbrev pub certificate_lines : Naming → List ℕ → List (List ℕ)
 certificate_lines naming text = certificate_lines_of naming (line_texts (without_mark text))
 
 -- ---- the grammar of a line
+-- `:`
 abbrev pub IsColon : Mark → Type 0
 IsColon m = m.kind ≡ token.Colon
 
@@ -52,6 +53,29 @@ IsNumber n m = m.kind ≡ token.Number n
 abbrev pub IsKeyword : List ℕ → Mark → Type 0
 IsKeyword word m = (m.kind ≡ token.Identifier) × (m.word ≡ word)
 
+-- number, `:`, a dependency, `:`, the rule, whose tokens are a body as `IsBody` says
+pub record IsLineBy (B : Type 0) (IsBody : List (List ℕ) → List Mark → B → Type 0) (names : List (List ℕ))
+    (ms : List Mark) (l : NumberedLine B) : Type 0 where
+  pub number : Mark
+  pub first : Mark
+  pub stated : List Mark
+  pub second : Mark
+  pub rule : List Mark
+  pub whole : ms ≡ number ∷ first ∷ stated ++ second ∷ rule
+  pub is_number : IsNumber l.number number
+  pub first_colon : IsColon first
+  pub dependency : IsDependency format.Plain names stated l.stated
+  pub second_colon : IsColon second
+  pub is_rule : IsBody names rule l.body
+
+-- a text has the tokens of a line
+pub record MeansLineBy (B : Type 0) (IsBody : List (List ℕ) → List Mark → B → Type 0) (naming : Naming)
+    (names : List (List ℕ)) (text : List ℕ) (l : NumberedLine B) : Type 0 where
+  pub marks : List Mark
+  pub tokens : HasTokens (lex (mode.numbered naming) text) marks
+  pub is_line : IsLineBy B IsBody names marks l
+
+-- ---- the rules of certificates
 -- the names of the rules over one premise
 abbrev pub step_name : Step → List ℕ
 step_name (augmentation z) = codes "augmentation"
@@ -134,25 +158,13 @@ IsRule names ms by_mreflexivity = IsAlone ms (codes "mreflexivity")
 IsRule names ms (by_step rule p) = IsStepLine names ms rule p
 IsRule names ms (by_pair rule p q) = IsPairLine ms rule p q
 
--- number, `:`, a dependency, `:`, the rule
-pub record IsCertificateLine (names : List (List ℕ)) (ms : List Mark) (l : Line) : Type 0 where
-  pub number : Mark
-  pub first : Mark
-  pub stated : List Mark
-  pub second : Mark
-  pub rule : List Mark
-  pub whole : ms ≡ number ∷ first ∷ stated ++ second ∷ rule
-  pub is_number : IsNumber l.number number
-  pub first_colon : IsColon first
-  pub dependency : IsDependency format.Plain names stated l.stated
-  pub second_colon : IsColon second
-  pub is_rule : IsRule names rule l.body
+-- a line of a certificate
+abbrev pub IsCertificateLine : List (List ℕ) → List Mark → Line → Type 0
+IsCertificateLine names ms l = IsLineBy Body IsRule names ms l
 
--- a text has the tokens of a line
-pub record MeansLine (naming : Naming) (names : List (List ℕ)) (text : List ℕ) (l : Line) : Type 0 where
-  pub marks : List Mark
-  pub tokens : HasTokens (lex (mode.numbered naming) text) marks
-  pub is_line : IsCertificateLine names marks l
+-- a text means it
+abbrev pub MeansLine : Naming → List (List ℕ) → List ℕ → Line → Type 0
+MeansLine naming names text l = MeansLineBy Body IsRule naming names text l
 
 -- each text means its line
 abbrev pub MeanLines : Naming → List (List ℕ) → List (List ℕ) → List Line → Type 0

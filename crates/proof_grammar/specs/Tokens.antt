@@ -1,5 +1,4 @@
--- The words of a certificate line: for the meaning of lines (`LineDiagnostics`) and their reading
--- (`Readers`).
+-- The words of a line: for the meaning of lines (`LineDiagnostics`) and their reading (`Readers`).
 use Rattle.std.specs.Prelude.{ℕ, Bool, true, false, if◌then◌else◌, List, Option, Some, None, codes}
 use Rattle.std.specs.Str.{bytes_eq}
 use Rattle.lexer.specs.declared.token.TokenKind.{TokenKind}
@@ -27,7 +26,7 @@ rule_word word =
     else if bytes_eq word (codes "coalescence") then Some rule.Coalescence
     else None
 
--- the rule that a token names
-unfoldable pub rule_named : TokenKind → List ℕ → Option RuleName
-rule_named token.Identifier word = rule_word word
-rule_named _ word = None
+-- the rule that a token names, where `named` says which one a word names
+unfoldable pub named_by : {R : Type 0} → (List ℕ → Option R) → TokenKind → List ℕ → Option R
+named_by named token.Identifier word = named word
+named_by named _ word = None

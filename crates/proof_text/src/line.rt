@@ -37,7 +37,7 @@ pub struct Line {
 }
 
 /// A line of which this is the first token, and what is left after it.
-#[tactic(auto, unfolding(proof_grammar::specs::Lines::certificate_line_from))]
+#[tactic(auto, unfolding(proof_grammar::specs::Lines::line_by_from))]
 pub fn read_line(
     names: &Names<'_>,
     first: Token,

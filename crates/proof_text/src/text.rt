@@ -79,7 +79,7 @@ pub fn read_concluded(
 /// Reads one line of the text. Whether a `yes` may still come is handed in and answered.
 #[tactic(auto, unfolding(proof_grammar::specs::Texts::read_one, proof_grammar::specs::Texts::line_kind,
 // the first token says what the line is, and is taken as its number
-proof_grammar::specs::Lines::certificate_line, schema_grammar::specs::Rests::take))]
+proof_grammar::specs::Lines::line_by, schema_grammar::specs::Rests::take))]
 fn read_one(
     alloc: Global,
     schema: &Schema,

@@ -2,7 +2,7 @@ ghost use Rattle.lexer.specs.Tokens.{bytes_of, is_colon};
 ghost use Rattle.std.specs.Prelude.{◌≡◌, IfOk, IfErr, Ok, Err};
 ghost use Rattle.tokens.specs.Views.{rest_of};
 ghost use Rattle.proof_grammar.specs.Readers.{colon, with_word, rule_name};
-ghost use Rattle.proof_grammar.specs.Tokens.{is_with, rule_named, rule_word};
+ghost use Rattle.proof_grammar.specs.Tokens.{is_with, named_by, rule_word};
 
 use lexer::{TokenKind, Word};
 use proof_grammar::RuleName;
@@ -46,7 +46,7 @@ pub fn with_word(start: Cursor<'_>) -> Result<Cursor<'_>, SchemaRefusal>
 }
 
 /// The name of a rule.
-#[tactic(auto, unfolding(proof_grammar::specs::Readers::rule_name))]
+#[tactic(auto, unfolding(proof_grammar::specs::Readers::rule_by))]
 pub fn rule_name(start: Cursor<'_>) -> Result<(RuleName, Cursor<'_>), SchemaRefusal>
     ensures ok { IfOk result (λ x. rule_name (rest_of start.entry) ≡ Ok (x.0, rest_of x.1)) }
     ensures err { IfErr result (λ e. rule_name (rest_of start.entry) ≡ Err e) }
@@ -79,9 +79,9 @@ fn is_with(kind: TokenKind, word: &Word<'_>) -> bool
 }
 
 /// The rule whose name a token is, in lower case.
-#[tactic(auto, unfolding(proof_grammar::specs::Tokens::rule_named))]
+#[tactic(auto, unfolding(proof_grammar::specs::Tokens::named_by))]
 fn rule_named(kind: TokenKind, word: &Word<'_>) -> Option<RuleName>
-    ensures exact { result ≡ rule_named kind (bytes_of word.now) }
+    ensures exact { result ≡ named_by rule_word kind (bytes_of word.now) }
 {
     match kind {
         TokenKind::Identifier => rule_word(word.bytes().as_slice()),

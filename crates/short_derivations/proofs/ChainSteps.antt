@@ -40,10 +40,11 @@ union_inside v c inside = same_from_within (union v c) c (λ k m. grind (arith, 
 pub union_covered : (t c : Attributes) → IsSubset c t → t ≡ union t c
 union_covered t c inside = same_from_within t (union t c) (λ k m. grind (arith, m)) (λ k m. grind (arith, m, inside k))
 
-same_left : (x y v w : Attributes) → fd x y ≡ fd v w → x ≡ v
+-- two functional dependencies that are one have the same sides
+pub same_left : (x y v w : Attributes) → fd x y ≡ fd v w → x ≡ v
 same_left x y v w e = cc
 
-same_right : (x y v w : Attributes) → fd x y ≡ fd v w → y ≡ w
+pub same_right : (x y v w : Attributes) → fd x y ≡ fd v w → y ≡ w
 same_right x y v w e = cc
 
 -- ---- what rules give

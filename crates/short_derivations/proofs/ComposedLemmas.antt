@@ -23,14 +23,9 @@ use Rattle.short_derivations.specs.Links.{given_line}
 use Rattle.short_derivations.specs.Short.{Concludes, IsPartOfGiven, FollowsFunctionally, SparesNone, IsThrifty}
 use Rattle.short_derivations.specs.Emitted.{IsEmission}
 use Rattle.short_derivations.specs.Thrift.{IsThriftyOf, IsShortOf}
+use Rattle.short_derivations.proofs.ChainSteps.{same_left, same_right}
 use Rattle.short_derivations.proofs.NeededLemmas.{implies_part}
 use Rattle.short_derivations.proofs.PushedLines.{contains_at}
-
-same_left : (x y v w : Attributes) → fd x y ≡ fd v w → x ≡ v
-same_left x y v w e = cc
-
-same_right : (x y v w : Attributes) → fd x y ≡ fd v w → y ≡ w
-same_right x y v w e = cc
 
 never : (x y v w : Attributes) → mvd x y ≡ fd v w → ⊥
 never x y v w e = cc

@@ -1,11 +1,10 @@
 -- What is left to prove of `read_derivation`: its clauses, what `read_one` requires, that the invariant
 -- of its loop holds at first and stays, that its loop ends, and that its sums fit.
-use Rattle.std.proofs.Common.{List, ap, arith, drop, length, length-drop, refl, sym, true, ◌+◌, ◌-◌, ◌∙◌, ◌≡◌, ◌≤◌}
-use Rattle.std.proofs.lemmas.Bool.{cond_both}
+use Rattle.std.proofs.Common.{List, ap, arith, length, refl, sym, true, ◌+◌, ◌-◌, ◌∙◌, ◌≡◌}
 use Rattle.lexer.specs.Lines.{line_texts, without_mark}
 use Rattle.lexer.proofs.LineEnds.{CutsAt-any, cut_last, cut_more}
 use Rattle.dep_model.proofs.FailureLemmas.{refused_is}
-use Rattle.proof_text.proofs.TextLemmas.{line_within}
+use Rattle.proof_text.proofs.TextLemmas.{unmarked_within, line_within}
 use Rattle.derivation_grammar.specs.Texts.{read_lines, read_derivation}
 use Rattle.derivation_grammar.proofs.TextLaws.{reading_law, refuses_there}
 use Rattle.derivation_text.specs.declared.line.DerivationLine.{DerivationLine}
@@ -17,12 +16,7 @@ unfolding read_derivation
 lines-init c = record {
   same = ap (λ (items : List DerivationLine). read_lines c.args.schema.now true 1 (derivation_lines_of items) (line_texts (without_mark c.args.text.now))) (sym c.new-before.ensures.items)
       ∙ ap (λ text. read_lines c.args.schema.now true 1 (derivation_lines_of c.new-before.result.items) (line_texts text)) (sym c.without_mark-rest.ensures.text);
-  room =
-      let text = c.args.text.now in
-      let short : length (without_mark text) ≤ length text =
-      cond_both _ (drop 3 text) text (λ t. length t ≤ length text) (λ marked. omega (arith, length-drop 3 text))
-      (λ bare. omega arith) in
-      omega (arith, short, ap length c.without_mark-rest.ensures.text);
+  room = omega (arith, unmarked_within c.args.text.now, ap length c.without_mark-rest.ensures.text);
 }
 
 pub read_one-requires : goal.read_one-requires

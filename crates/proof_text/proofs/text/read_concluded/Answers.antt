@@ -1,8 +1,7 @@
 -- What is left to prove of `read_concluded`: its clauses `err`, `within`, `ok`, `concludes` and two
 -- more, what `read_one` requires, that the invariant of its loop holds at first and stays, that its
 -- loop ends, and that its sums fit, by `stated_within` and `line_within`.
-use Rattle.std.proofs.Common.{ap, arith, drop, length, length-drop, refl, subst, sym, true, ◌+◌, ◌-◌, ◌∙◌, ◌≡◌, ◌≤◌}
-use Rattle.std.proofs.lemmas.Bool.{cond_both}
+use Rattle.std.proofs.Common.{ap, arith, length, refl, subst, sym, true, ◌+◌, ◌-◌, ◌∙◌, ◌≡◌}
 use Rattle.derivation.specs.Derivs.{tree_of}
 use Rattle.lexer.specs.Lines.{line_texts, without_mark}
 use Rattle.lexer.proofs.LineEnds.{CutsAt-any, cut_last, cut_more}
@@ -16,7 +15,7 @@ use Rattle.proof_grammar.proofs.CertificateLaws.{spelled_there}
 use Rattle.proof_grammar.proofs.TextRefusals.{refuses_there}
 use Rattle.proof_text.proofs.PrintingLemmas.{stated_within}
 use Rattle.proof_grammar.proofs.CheckedLemmas.{read_proof_checked, read_one_keeps, root_proves}
-use Rattle.proof_text.proofs.TextLemmas.{line_within}
+use Rattle.proof_text.proofs.TextLemmas.{unmarked_within, line_within}
 use Rattle.proof_text.proofs.text.read_concluded.Goals as goal
 
 pub lines-init : goal.lines-init
@@ -24,12 +23,7 @@ unfolding read_proof
 lines-init c = record {
   same = ap (λ state. read_certificate_lines c.args.schema.now true 1 state (line_texts (without_mark c.args.text.now))) (sym c.new-state.ensures.empty)
       ∙ ap (λ text. read_certificate_lines c.args.schema.now true 1 (checker_state_of c.new-state.result) (line_texts text)) (sym c.without_mark-rest.ensures.text);
-  room =
-      let text = c.args.text.now in
-      let short : length (without_mark text) ≤ length text =
-      cond_both _ (drop 3 text) text (λ t. length t ≤ length text) (λ marked. omega (arith, length-drop 3 text))
-      (λ bare. omega arith) in
-      omega (arith, short, ap length c.without_mark-rest.ensures.text);
+  room = omega (arith, unmarked_within c.args.text.now, ap length c.without_mark-rest.ensures.text);
   checker_state = subst (IsCheckerState c.args.schema.now) (sym c.new-state.ensures.empty) (record { stand = tt {0}; count = refl; lines_fit = omega arith });
 }
 
