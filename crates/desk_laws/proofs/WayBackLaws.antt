@@ -158,7 +158,7 @@ module _ (files : Files) (looks : Looks) (name : List ℕ) (others : List (List 
     (migrated : AreMigrated s names plan text rows tables) (file : IsFile schema_file (known_files files) name s)
     (hold : HoldTables files others tables) where
   abbrev design : List KeyedScheme
-  design = migrated.tables.design
+  design = migrated.are.design
 
   over : IsOver (width_of s) rows
   over = migrated.legal.over
@@ -167,7 +167,7 @@ module _ (files : Files) (looks : Looks) (name : List ℕ) (others : List (List 
   named = (declared_are_names file.bytes (declarations_of s) file.means).each
 
   planned : IsPlan (width_of s) (schemes_of_tables design)
-  planned = order-plan (width_of s) (theory_of s) plan (schemes_of_tables design) migrated.tables.keyed.order migrated.planned
+  planned = order-plan (width_of s) (theory_of s) plan (schemes_of_tables design) migrated.are.keyed.order migrated.planned
 
   well : All (IsWell s) design
   well = All-members (IsWell s) design (λ d d_in.
@@ -182,24 +182,24 @@ module _ (files : Files) (looks : Looks) (name : List ℕ) (others : List (List 
 
   back : All (IsBack s) tables
   back =
-      subst (All (IsBack s)) (sym migrated.tables.projections)
+      subst (All (IsBack s)) (sym migrated.are.projections)
       (tables_back s names rows 0 design named over (rows_fit s text rows migrated.read)
       (few_rows s (IsHeaderOf (width_of s) (names_of s)) text (records_of text) rows migrated.read)
       (All-members (λ (k : KeyedScheme). 0 < count_below (attributes k.scheme) (width_of s)) design
       (λ d d_in. (All-contains (IsWell s) design d well d_in).some)))
 
   zipped : AllZip (IsTableFor s rows) tables design
-  zipped = subst (λ (ts : List TableValue). AllZip (IsTableFor s rows) ts design) (sym migrated.tables.projections)
+  zipped = subst (λ (ts : List TableValue). AllZip (IsTableFor s rows) ts design) (sym migrated.are.projections)
       (for_design s names rows 0 design)
 
   have : (ds : List KeyedScheme) → IsPermutation design ds → HaveRowsOnceEach s plan tables (tables_of (map (part_for s rows) ds))
   have ds moved = record {
     in_order = tables_of (map (part_for s rows) design);
     are = record {
-      order = subst (IsInDesignOrder (width_of s) (theory_of s) plan) (sym (same_schemes s rows design)) migrated.tables.keyed.order;
+      order = subst (IsInDesignOrder (width_of s) (theory_of s) plan) (sym (same_schemes s rows design)) migrated.are.keyed.order;
       rows =
           same_rows s rows design ∙ sym (relations_from s names rows 0 design)
-          ∙ sym (ap relations_of migrated.tables.projections);
+          ∙ sym (ap relations_of migrated.are.projections);
     };
     moved = IsPermutation-map table_of_part (map (part_for s rows) design) (map (part_for s rows) ds)
         (IsPermutation-map (part_for s rows) design ds moved);
@@ -212,7 +212,7 @@ module _ (files : Files) (looks : Looks) (name : List ℕ) (others : List (List 
       let are_files = parts_are s rows over named files others hold.in_order ds hold.each beside
       (All-permutation (IsBack s) tables hold.in_order hold.moved back) (All-permutation (IsWell s) design ds moved well) in
       there_and_back s names plan rows tables (tables_of (map (part_for s rows) ds)) migrated.lossless migrated.readable
-      migrated.tables (have ds moved) migrated.planned migrated.legal migrated.tidy response
+      migrated.are (have ds moved) migrated.planned migrated.legal migrated.tidy response
       (after_parts files s others (map (part_for s rows) ds) (JoinsTables s) response are_files
       (after_schema files name s (λ r. WithParts (known_files files) r others (λ ps. JoinsTables r (tables_of ps))) response file
       (rejoin_asks files name others looks response few answered)))

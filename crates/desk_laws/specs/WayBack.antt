@@ -45,7 +45,7 @@ pub record AreMigrated (schema : Schema) (names : GivenNames) (plan : List Attri
   pub lossless : LosesNothing schema plan
   pub readable : AreReadable schema names plan
   pub tidy : AreTidy schema plan rows
-  pub tables : AreTablesOf schema names plan rows tables
+  pub are : AreTablesOf schema names plan rows tables
 
 -- where files hold the schema that was migrated and the tables, `rejoin` of them says the rows
 abbrev pub FilesAreRejoined : Type 0

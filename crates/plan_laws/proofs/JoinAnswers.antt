@@ -6,7 +6,7 @@ use Rattle.csv_text.specs.Rows.{rows_text}
 use Rattle.dep_model.specs.Projections.{Covers}
 use Rattle.dep_model.specs.Tuples.{Relation}
 use Rattle.schema_model.specs.Schemas.{Schema, names_of, nullable_of, width_of, theory_of}
-use Rattle.optional_tables.specs.Order.{look_up_order, members_at}
+use Rattle.optional_tables.specs.Order.{members_at}
 use Rattle.optional_tables.specs.declared.keyed.KeyedScheme.{KeyedScheme}
 use Rattle.table_join.specs.LookUps.{AreJoinedAndLookedUp, AreTooMany, IsFirstTooMany, RefusesLookUps, look_ups}
 use Rattle.table_join.specs.Answers.{AreJoinedIn, GoesBeyond, IsBeyondLimit, IsFirstBeyond, IsFirstUncovered, IsOrderedJoin, IsWithinLimit, RefusesJoin, tables_from_last}
@@ -19,7 +19,7 @@ use Rattle.implication_laws.proofs.StepLaws.{same_says}
 use Rattle.desk_responses.specs.ResponseValues.{ResponseValue, Says}
 use Rattle.desk_responses.specs.declared.status.Status.TheVariants.{Yes, Refused}
 use Rattle.desk_tables.specs.declared.rejoining.TheConstants.{MOST_JOINED_ROWS}
-use Rattle.desk_tables.specs.Rejoining.{AreRowsOf, HaveLookUps, IsJoinOf, JoinsAll, JoinsTables, LooksUp, in_order, join_refusal_text, joined_tables, looked_up_tables}
+use Rattle.desk_tables.specs.Rejoining.{HaveLookUps, IsJoinOf, JoinsAll, JoinsTables, LooksUp, in_order, join_refusal_text, joined_tables, looked_up_tables}
 use Rattle.desk_tables.proofs.OneDesignLemmas.{grouped_alike, one_counts, one_files}
 use Rattle.plan_laws.proofs.LookedUpLaws.{looked_up_back, looked_up_has}
 use Rattle.plan_laws.proofs.OrderAlike.{filled_alike, look_up_order_alike}

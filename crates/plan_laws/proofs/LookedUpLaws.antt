@@ -1,6 +1,6 @@
 -- The parts that have the rows of a migration's tables, in whatever order a readable design that has an optional table, are
 -- looked up to the rows.
-use Rattle.std.proofs.Common.{◌≡◌, ◌<◌, ◌+◌, ◌++◌, ℕ, suc, List, [], ◌∷◌, filter, length, map, refl, sym, ap, subst, ◌∙◌, inl, inr, arith}
+use Rattle.std.proofs.Common.{◌≡◌, ◌<◌, ◌+◌, ◌++◌, ℕ, List, [], ◌∷◌, filter, length, map, sym, ap, subst, ◌∙◌, inl, inr, arith}
 use Rattle.std.specs.Prelude.{All, Contains}
 use Rattle.std.specs.List.{AllZip}
 use Rattle.std.proofs.lemmas.List.{length-map}
@@ -38,7 +38,7 @@ use Rattle.table_join.specs.declared.refusal.JoinRefusal.TheVariants.{NotCovered
 use Rattle.desk_designs.specs.Joins.{LosesNothing}
 use Rattle.desk_tables.proofs.OneDesignLemmas.{same_key}
 use Rattle.desk_tables.specs.Migrations.{AreTablesOf}
-use Rattle.desk_tables.specs.Rejoining.{HaveLookUps, IsKeyedTable, in_order, joined_tables, looked_up_tables}
+use Rattle.desk_tables.specs.Rejoining.{HaveLookUps, IsKeyedTable, joined_tables, looked_up_tables}
 use Rattle.desk_tables.specs.Tidiness.{AreTidy, HasPrimaryKey}
 use Rattle.desk_tables.specs.declared.rejoining.TheConstants.{MOST_JOINED_ROWS}
 use Rattle.plan_laws.specs.Rejoined.{GivesTheRows, HaveRowsInAnyOrder}

@@ -1,6 +1,6 @@
 -- The tables that a migration makes of a plan that can be read back, each once and in whatever order, are a readable design;
 -- so `rejoin` gives the rows of them, whether one is optional or none.
-use Rattle.std.proofs.Common.{◌≡◌, ◌<◌, ◌+◌, ℕ, Bool, true, false, true≢false, List, [], ◌∷◌, length, map, refl, sym, ap, subst, ◌∙◌, arith, IsPermutation}
+use Rattle.std.proofs.Common.{◌≡◌, ◌<◌, ◌+◌, ℕ, Bool, true, false, true≢false, List, [], ◌∷◌, map, refl, sym, ap, subst, ◌∙◌, arith, IsPermutation}
 use Rattle.std.specs.Prelude.{All, Any, Contains}
 use Rattle.std.specs.List.{AllZip, list_any}
 use Rattle.std.proofs.lemmas.Bool.{false_from_ne_true}
@@ -10,7 +10,7 @@ use Rattle.std.proofs.lemmas.List.Folds.{list_any-from_Any}
 use Rattle.std.proofs.lemmas.List.Sorted.{Contains-permutation, IsPermutation-sym, IsPermutation-trans, list_any-IsPermutation}
 use Rattle.attr_sets.specs.Attributes.{Attributes}
 use Rattle.attr_sets.specs.Sets.{attributes}
-use Rattle.dep_model.specs.Plans.{IsPlan, schemes_of}
+use Rattle.dep_model.specs.Plans.{IsPlan}
 use Rattle.dep_model.specs.Tuples.{Relation}
 use Rattle.dep_model.proofs.ListLemmas.{All-members, Any-from, map-member}
 use Rattle.ddl_text.specs.Designs.{keyed}
