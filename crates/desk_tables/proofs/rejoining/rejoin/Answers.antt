@@ -55,39 +55,25 @@ rejoin_design-requires-clause-order c =
     (sym c.deref-then-has_look_ups-3.ensures.value)
     (subst (λ (m : ℕ). All (λ (k : ℕ). k < m) c.in_ok-order.order.items) many c.in_ok-order.ensures.within)
 
--- ---- the files as those of a design
-files_keyed : (c : goal.After-has_look_ups)
-    → AllZip (IsKeyedTable c.args.schema.now) (tables_of c.args.parts.items) c.in_ok-keyed.keyed.items
-files_keyed c =
-    subst (λ (ps : List PartialRows). AllZip (IsKeyedTable c.args.schema.now) (tables_of ps) c.in_ok-keyed.keyed.items)
-    c.deref.ensures.value c.in_ok-keyed.ensures.keys
-
-files_ordered : (c : goal.After-has_look_ups)
-    → IsOrderOf c.args.schema.now c.in_ok-keyed.keyed.items c.in_ok-order.ensures.order.0 c.in_ok-order.order.items
-files_ordered c =
-    let ordered = c.in_ok-order.ensures.order in
-    subst (λ (ks : List KeyedScheme). IsOrderOf c.args.schema.now ks ordered.0 c.in_ok-order.order.items)
-    c.deref-2.ensures.value (ordered.1, ordered.2)
-
-design_is : (c : goal.After-has_look_ups)
-    → c.deref-5.result.now ≡ members_at c.in_ok-keyed.keyed.items c.in_ok-order.order.items
-design_is c =
-    c.deref-5.ensures.value ∙ c.in_ok-design.ensures.members
-    ∙ ap₂ (λ (ks : List KeyedScheme) (os : List ℕ). members_at ks os) c.deref-3.ensures.value c.deref-4.ensures.value
-
--- ---- the answer
 pub returns-then-has_look_ups : goal.returns-then-has_look_ups
 returns-then-has_look_ups c =
     let s = c.args.schema.now in
     let parts = c.args.parts.items in
     let keyed = c.in_ok-keyed.keyed.items in
     let order = c.in_ok-order.order.items in
+    let keys : AllZip (IsKeyedTable s) (tables_of parts) keyed =
+    subst (λ (ps : List PartialRows). AllZip (IsKeyedTable s) (tables_of ps) keyed) c.deref.ensures.value c.in_ok-keyed.ensures.keys in
+    let ordered = c.in_ok-order.ensures.order in
+    let is : IsOrderOf s keyed ordered.0 order =
+    subst (λ (ks : List KeyedScheme). IsOrderOf s ks ordered.0 order) c.deref-2.ensures.value (ordered.1, ordered.2) in
+    let design : c.deref-5.result.now ≡ members_at keyed order =
+    c.deref-5.ensures.value ∙ c.in_ok-design.ensures.members
+    ∙ ap₂ (λ (ks : List KeyedScheme) (os : List ℕ). members_at ks os) c.deref-3.ensures.value c.deref-4.ensures.value in
     let has : IsOptionalDesign (nullable_of s) (members_at keyed order) =
-    has_same (attributes c.nullable.result) (nullable_of s) c.deref-5.result.now (members_at keyed order) c.nullable.ensures.nullable
-    (design_is c) (c.has_look_ups.ensures.has.0 c.if-has_look_ups.true) in
+    has_same (attributes c.nullable.result) (nullable_of s) c.deref-5.result.now (members_at keyed order) c.nullable.ensures.nullable design
+    (c.has_look_ups.ensures.has.0 c.if-has_look_ups.true) in
     record {
-      response = looks_up s (tables_of parts) keyed (files_keyed c) c.in_ok-order.ensures.order.0 order c.rejoin_design.result
-          (files_ordered c) has.0 has.1
+      response = looks_up s (tables_of parts) keyed keys ordered.0 order c.rejoin_design.result is has.0 has.1
           (answers_same s c.rejoin_design.result c.deref-then-has_look_ups.result.now parts c.deref-then-has_look_ups-2.result.now keyed
           c.deref-then-has_look_ups-3.result.now order c.deref-then-has_look_ups.ensures.value c.deref-then-has_look_ups-2.ensures.value
           c.deref-then-has_look_ups-3.ensures.value c.rejoin_design.ensures.response);
@@ -96,13 +82,21 @@ returns-then-has_look_ups c =
 pub returns-else-has_look_ups : goal.returns-else-has_look_ups
 returns-else-has_look_ups c =
     let s = c.args.schema.now in
+    let parts = c.args.parts.items in
     let keyed = c.in_ok-keyed.keyed.items in
     let order = c.in_ok-order.order.items in
+    let keys : AllZip (IsKeyedTable s) (tables_of parts) keyed =
+    subst (λ (ps : List PartialRows). AllZip (IsKeyedTable s) (tables_of ps) keyed) c.deref.ensures.value c.in_ok-keyed.ensures.keys in
+    let ordered = c.in_ok-order.ensures.order in
+    let is : IsOrderOf s keyed ordered.0 order =
+    subst (λ (ks : List KeyedScheme). IsOrderOf s ks ordered.0 order) c.deref-2.ensures.value (ordered.1, ordered.2) in
+    let design : c.deref-5.result.now ≡ members_at keyed order =
+    c.deref-5.ensures.value ∙ c.in_ok-design.ensures.members
+    ∙ ap₂ (λ (ks : List KeyedScheme) (os : List ℕ). members_at ks os) c.deref-3.ensures.value c.deref-4.ensures.value in
     record {
-      response = joins_all s (tables_of c.args.parts.items) keyed (files_keyed c) c.in_ok-order.ensures.order.0 order c.rejoin_all.result
-          (files_ordered c)
+      response = joins_all s (tables_of parts) keyed keys ordered.0 order c.rejoin_all.result is
           (λ has. true≢false (sym (c.has_look_ups.ensures.has.1
           (has_same (nullable_of s) (attributes c.nullable.result) (members_at keyed order) c.deref-5.result.now
-          (sym c.nullable.ensures.nullable) (sym (design_is c)) has)) ∙ c.if-has_look_ups.false))
+          (sym c.nullable.ensures.nullable) (sym design) has)) ∙ c.if-has_look_ups.false))
           c.rejoin_all.ensures.response;
     }
