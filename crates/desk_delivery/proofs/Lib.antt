@@ -1,2 +1,2 @@
-pub mod FolderLemmas
+pub mod EndLemmas
 pub mod ReportLemmas

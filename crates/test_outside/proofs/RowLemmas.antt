@@ -10,12 +10,6 @@ use Rattle.row_store.specs.Rows.{row_at}
 use Rattle.named_tables.specs.Choices.{HasRows}
 use Rattle.named_tables.specs.declared.table.ChosenTable.{ChosenTable}
 
-pub all_values : (scheme : Attributes) (row : Tuple) (n : ℕ) → scheme ≡ below n → length row ≡ n
-    → length (project_tuple scheme row) ≡ n
-all_values scheme row n is width =
-    length-project_tuple scheme row ∙ ap (count_below scheme) width ∙ ap (λ (s : Attributes). count_below s n) is
-    ∙ count_below-below n n (omega arith)
-
 -- a row of one value is there, and has a value for the one column
 abbrev IsChosen : Attributes → Relation → List (List ℕ) → ℕ → Type 0
 IsChosen scheme rows columns i = (i < length rows) × (length (project_tuple scheme (row_at rows i)) ≡ length columns)
