@@ -9,7 +9,7 @@ use Rattle.desk_outside.specs.Files.{StoredFile}
 use Rattle.desk_outside.specs.Folders.{FolderState, folder_path}
 use Rattle.named_tables.specs.Tables.{TableValue}
 use Rattle.destinations.specs.Formats.{table_files}
-use Rattle.destinations.specs.Writing.{AllWritten, FilesWritten, WriteEnd, WritesFile}
+use Rattle.destinations.specs.Writing.{AllWritten, FilesWritten, WriteEnd}
 use Rattle.destinations.specs.declared.destination.Destination.{Destination}
 use Rattle.destinations.specs.declared.format.TableFormat.TheVariants.{Csv}
 use Rattle.destinations.proofs.FileLemmas.{all_and_one}

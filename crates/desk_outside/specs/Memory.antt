@@ -3,7 +3,7 @@ use Rattle.std.specs.Prelude.{ℕ, ◌-◌, ◌<◌, ◌≤◌, List, [], length
 use Rattle.std.specs.Option.{option_map_or}
 use Rattle.desk_outside.specs.declared.held_file.HeldFile.{HeldFile}
 use Rattle.desk_outside.specs.Files.{Files, StoredFile}
-use Rattle.desk_outside.specs.Folders.{FolderContents, FolderState}
+use Rattle.desk_outside.specs.Folders.{FolderState}
 use Rattle.desk_outside.specs.Planned.{FaultPlan, new_plan}
 
 -- a file source: its files, what is left of the begun one, how many bytes were taken since it was

@@ -21,7 +21,7 @@ pub cause_from : (before middle after : ℕ) (end : WriteEnd) → middle ≡ bef
 cause_from before middle after end same cause = subst (λ (n : ℕ). HasOutsideCause n after end) same cause
 
 pub memory_cause : (count : ℕ) → HasOutsideCause {T = Unit {0}} count count (Err OutOfMemory)
-memory_cause count = record { later = omega arith; fine = tt; failed = λ e. absurd (not_failed {Unit {0}} e) }
+memory_cause count = record { later = omega arith; fine = tt; failed = λ e. absurd (not_failed {T = Unit {0}} e) }
 
 -- ---- finished files
 pub finished_closed : (known : Option FolderContents) → finished_in (option_map with_none_open known) ≡ finished_in known

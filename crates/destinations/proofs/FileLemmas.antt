@@ -11,7 +11,7 @@ use Rattle.desk_outside.specs.Folders.{BeginsName, FolderContents, FolderState, 
 use Rattle.named_tables.specs.Tables.{chosen_value, chosen_values}
 use Rattle.named_tables.specs.declared.table.ChosenTable.{ChosenTable}
 use Rattle.destinations.specs.Formats.{table_file, table_files}
-use Rattle.destinations.specs.Writing.{AddsBytes, AllWritten, FilesWritten, StoppedAtFile, WriteEnd, WritesFile, names_of_files, with_all_stored, with_stored}
+use Rattle.destinations.specs.Writing.{AddsBytes, AllWritten, FilesWritten, WriteEnd, WritesFile, names_of_files, with_all_stored, with_stored}
 use Rattle.destinations.specs.declared.format.TableFormat.{TableFormat}
 use Rattle.destinations.proofs.AddingLemmas.{cause_from, finished_closed, memory_cause}
 use Rattle.destinations.proofs.BufferLemmas.{finished_gathered}

@@ -7,7 +7,7 @@ ghost use Rattle.destinations.specs.Writing.{AddsBytes, WritesFile};
 ghost use Rattle.destinations.specs.declared.format.TableFormat.TheVariants.{Sql};
 ghost use Rattle.named_tables.specs.Choices.{HasRows};
 ghost use Rattle.named_tables.specs.Tables.{chosen_values};
-ghost use Rattle.own_folder.specs.OwnFiles.{load_file, load_text};
+ghost use Rattle.own_folder.specs.OwnFiles.{load_file};
 
 use crate::bytes::load_front;
 use byte_texts::add;

@@ -42,8 +42,8 @@ names_differ front format (table ∷ tables) pairs i j d less within =
     let inside : j < length (table ∷ tables) = omega (arith, within, length-map (table ∷ tables) (table_file front format)) in
     λ same.
     pairs i j table less inside
-    (append_cancel_right _ _ (ending format)
     (append_cancel_left front _ _
+    (append_cancel_right _ _ (ending format)
     (ap (λ (file : StoredFile). file.name) (sym (get_or-map (table_file front format) (table ∷ tables) i table d (omega (arith, less, inside))))
     ∙ same
     ∙ ap (λ (file : StoredFile). file.name) (get_or-map (table_file front format) (table ∷ tables) j table d inside))))

@@ -1,8 +1,8 @@
 -- How many values of a row a scheme takes.
 use Rattle.std.proofs.Common.{◌≡◌, ◌<◌, ℕ, List, [], ◌∷◌, ◌++◌, All, length, ap, sym, subst, ◌∙◌, arith}
 use Rattle.std.proofs.lemmas.List.Elements.{All-push}
-use Rattle.attr_sets.specs.Attributes.{Attributes, below, only, count_below}
-use Rattle.attr_sets.proofs.AttributesLemmas.{count_below-below, count_below-only}
+use Rattle.attr_sets.specs.Attributes.{Attributes, only, count_below}
+use Rattle.attr_sets.proofs.AttributesLemmas.{count_below-only}
 use Rattle.dep_model.specs.Projections.{project_tuple}
 use Rattle.dep_model.specs.Tuples.{Tuple, Relation, IsOver}
 use Rattle.dep_model.proofs.SchemeLemmas.{length-project_tuple}

@@ -9,8 +9,8 @@ use Rattle.destinations.specs.Writing.{FilesWritten}
 use Rattle.destinations.proofs.FileLemmas.{files_next, files_none, files_stop, table_files_more, table_files_split}
 use Rattle.table_writing.proofs.files.write_table_files.Goals as goal
 
-pub loop-table-enters : goal.loop-table-enters
-loop-table-enters g c = files_none (g.F.Folder.state c.args.folder.now)
+pub loop-table-init : goal.loop-table-init
+loop-table-init g c = files_none (g.F.Folder.state c.args.folder.now)
 
 pub loop-table-preserved : goal.loop-table-preserved
 loop-table-preserved g c =
