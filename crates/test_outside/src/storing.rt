@@ -32,7 +32,13 @@ fn written(
     format: TableFormat,
     tables: &ChosenTables,
     failing: u64,
-) -> Result<(Result<(), OutsideFault>, Vec<Destination<BufferedFolder<MemoryFolder>>>), OutOfMemory> {
+) -> Result<
+    (
+        Result<(), OutsideFault>,
+        Vec<Destination<BufferedFolder<MemoryFolder>>>,
+    ),
+    OutOfMemory,
+> {
     let folder = MemoryFolder::new(alloc, Vec::from_slice(alloc, &[failing])?);
     let folder = BufferedFolder::new(alloc, folder)?;
     let mut destinations = Vec::new(alloc);
@@ -45,9 +51,7 @@ fn written(
 }
 
 // The files of a destination.
-fn files_of(
-    destinations: &[Destination<BufferedFolder<MemoryFolder>>],
-) -> Option<&[HeldFile]> {
+fn files_of(destinations: &[Destination<BufferedFolder<MemoryFolder>>]) -> Option<&[HeldFile]> {
     match destinations.get(0) {
         Some(destination) => destination.folder.visible(),
         None => None,

@@ -1,4 +1,6 @@
-use crate::calls::{Destinations, File, call, call_noted, csv_files, failing_folder, slow_sink, slow_source};
+use crate::calls::{
+    Destinations, File, call, call_noted, csv_files, failing_folder, slow_sink, slow_source,
+};
 use desk_responses::Status;
 use std::alloc::Global;
 use std::process::Abort;

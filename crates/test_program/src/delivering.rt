@@ -1,4 +1,6 @@
-use crate::calls::{Destinations, File, call, call_into, csv_files, failing_folder, slow_sink, slow_source};
+use crate::calls::{
+    Destinations, File, call, call_into, csv_files, failing_folder, slow_sink, slow_source,
+};
 use dep_model::OutOfMemory;
 use desk_outside::{Folder, HeldFile, MemoryFolder, MemorySink};
 use desk_responses::Status;
@@ -202,12 +204,25 @@ fn a_name_is_free_once(rt: HostRuntime) -> Result<(), Fail> {
     let ended = migrate_into(alloc, &mut sink, &mut own)?;
     assert!(rt; ended == Status::Yes);
     assert_eq!(rt; sink.bytes(), READ);
-    check_files(&rt, own.visible(), 4, (b"out/t1.csv", b"A,B\n1,x\n2,O'Hara\n"))?;
+    check_files(
+        &rt,
+        own.visible(),
+        4,
+        (b"out/t1.csv", b"A,B\n1,x\n2,O'Hara\n"),
+    )?;
     let mut sink = slow_sink(alloc, 1000)?;
     let ended = migrate_into(alloc, &mut sink, &mut own)?;
     assert!(rt; ended == Status::Refused);
-    assert_eq!(rt; sink.bytes(), b"refused: out is not an empty folder\n".as_slice());
-    check_files(&rt, own.visible(), 4, (b"out/t1.csv", b"A,B\n1,x\n2,O'Hara\n"))
+    assert_eq!(rt;
+        sink.bytes(),
+        b"refused: out is not an empty folder\n".as_slice()
+    );
+    check_files(
+        &rt,
+        own.visible(),
+        4,
+        (b"out/t1.csv", b"A,B\n1,x\n2,O'Hara\n"),
+    )
 }
 
 // A folder that cannot be made fails as both destinations.
@@ -218,6 +233,9 @@ fn a_folder_that_is_not_made_fails_twice(rt: HostRuntime) -> Result<(), Fail> {
     let mut sink = slow_sink(alloc, 1000)?;
     let ended = migrate_into(alloc, &mut sink, &mut own)?;
     assert!(rt; ended == Status::DestinationFailed);
-    assert_eq!(rt; sink.bytes(), b"target 1 failed\ntarget 2 failed\n".as_slice());
+    assert_eq!(rt;
+        sink.bytes(),
+        b"target 1 failed\ntarget 2 failed\n".as_slice()
+    );
     check_files(&rt, own.visible(), 0, (b"", b""))
 }
