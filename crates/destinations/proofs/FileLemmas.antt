@@ -70,13 +70,13 @@ file_given_up file start begun written new e begins adds gone closed same fine =
   begins = begins_as file.name start.begun new.begun (Err e) (same ∙ adds.same ∙ begins.begun);
   closed = λ before. closed;
   cause = cause_from start.faults begun.faults new.faults (Err e) begins.fine
-      (subst (λ (n : ℕ). HasOutsideCause begun.faults n (Err e)) (sym fine) adds.cause);
+      (subst (λ (n : ℕ). HasOutsideCause {T = Unit {0}} begun.faults n (Err e)) (sym fine) adds.cause);
 }
 
 -- a file that could not be begun
 pub file_not_begun : (file : StoredFile) (start new : FolderState) (e : OutsideFault) → new.contents ≡ option_map with_none_open start.contents
     → new.is_open ≡ false → BeginsName {T = Unit {0}} file.name start.begun new.begun (Err e)
-    → HasOutsideCause start.faults new.faults (Err e) → WritesFile file start new (Err e)
+    → HasOutsideCause {T = Unit {0}} start.faults new.faults (Err e) → WritesFile file start new (Err e)
 file_not_begun file start new e gone closed begins cause = record {
   ok = tt;
   err = inl (ap finished_in gone ∙ finished_closed start.contents);

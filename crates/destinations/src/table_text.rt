@@ -67,7 +67,10 @@ fn write_rows<F: Folder>(
         (F.state folder.old) (F.state folder.new) result }
 {
     for row in &table.chosen {
-        write_row(folder, lines, format, front, rows, *row as usize, table)?;
+        match write_row(folder, lines, format, front, rows, *row as usize, table) {
+            Ok(()) => {}
+            Err(fault) => return Err(fault),
+        }
     }
     Ok(())
 }

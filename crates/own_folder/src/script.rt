@@ -31,11 +31,13 @@ pub fn write_load_file<F: Folder>(
     ensures writes { WritesFile (load_file path.now script.now (chosen_values rows.now tables.now))
         (F.state folder.old) (F.state folder.new) result }
 {
-    let (Ok(name), Ok(front)) = (
-        load_name(lines.alloc, path),
-        load_front(&mut lines.values, rows, tables),
-    ) else {
-        return Err(OutsideFault::OutOfMemory);
+    let name = match load_name(lines.alloc, path) {
+        Ok(name) => name,
+        Err(_) => return Err(OutsideFault::OutOfMemory),
+    };
+    let front = match load_front(&mut lines.values, rows, tables) {
+        Ok(front) => front,
+        Err(_) => return Err(OutsideFault::OutOfMemory),
     };
     match folder.begin(&name) {
         Ok(()) => {}
@@ -73,9 +75,18 @@ fn write_script<F: Folder>(
     ensures adds { AddsBytes (front.now ++ script.now ++ flat_map (table_text Sql) (chosen_values rows.now tables.now)
         ++ (codes "COMMIT;" ++ 10 ∷ [])) (F.state folder.old) (F.state folder.new) result }
 {
-    write_all(folder, front)?;
-    write_all(folder, script)?;
-    write_insert_lines(folder, lines, rows, tables)?;
+    match write_all(folder, front) {
+        Ok(()) => {}
+        Err(fault) => return Err(fault),
+    }
+    match write_all(folder, script) {
+        Ok(()) => {}
+        Err(fault) => return Err(fault),
+    }
+    match write_insert_lines(folder, lines, rows, tables) {
+        Ok(()) => {}
+        Err(fault) => return Err(fault),
+    }
     write_all(folder, b"COMMIT;\n")
 }
 
@@ -92,7 +103,10 @@ fn write_insert_lines<F: Folder>(
         (F.state folder.old) (F.state folder.new) result }
 {
     for table in tables {
-        write_table(folder, lines, TableFormat::Sql, rows, table)?;
+        match write_table(folder, lines, TableFormat::Sql, rows, table) {
+            Ok(()) => {}
+            Err(fault) => return Err(fault),
+        }
     }
     Ok(())
 }

@@ -17,10 +17,10 @@ loop-row-preserved g c =
     c.loop-row.row-index _ _ _ _ _ tt tt
     (within_lent _ chosen _ c.deref-row-items.ensures.value c.loop-row-test.true)
     (is_lent _ chosen _ _ _ c.deref-row-items.ensures.value refl)
-    c.loop-row.invariant c.in_ok-write_row.ensures.adds
+    c.loop-row.invariant c.in-Ok.ensures.adds
 
-pub returns-in_err-write_row : goal.returns-in_err-write_row
-returns-in_err-write_row g c = record { adds = adds_until _ _ _ _ _ _ tt _ c.loop-row.invariant c.in_err-write_row.ensures.adds }
+pub returns-in-Err : goal.returns-in-Err
+returns-in-Err g c = record { adds = adds_until _ _ _ _ _ _ tt _ c.loop-row.invariant c.in-Err.ensures.adds }
 
 pub returns : goal.returns
 returns g c =

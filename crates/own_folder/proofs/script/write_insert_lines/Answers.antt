@@ -14,10 +14,10 @@ loop-table-init g c = adds_nothing (g.F.Folder.state c.args.folder.now) c.requir
 pub loop-table-preserved : goal.loop-table-preserved
 loop-table-preserved g c =
     adds_next (λ (table : ChosenTable). table_text Sql (chosen_value c.args.rows.now table)) c.args.tables.now c.loop-table.table-index _ _ _ _ _ tt tt
-    c.loop-table-test.true c.table-item.is c.loop-table.invariant c.in_ok-write_table.ensures.adds
+    c.loop-table-test.true c.table-item.is c.loop-table.invariant c.in-Ok.ensures.adds
 
-pub returns-in_err-write_table : goal.returns-in_err-write_table
-returns-in_err-write_table g c = record { adds = adds_until _ _ _ _ _ _ tt _ c.loop-table.invariant c.in_err-write_table.ensures.adds }
+pub returns-in-Err : goal.returns-in-Err
+returns-in-Err g c = record { adds = adds_until _ _ _ _ _ _ tt _ c.loop-table.invariant c.in-Err.ensures.adds }
 
 pub returns : goal.returns
 returns g c = record {
