@@ -1,4 +1,4 @@
-ghost use Rattle.std.specs.Prelude.{◌≡◌, ◌≤◌, ◌+◌, ◌*◌, max, List, [], ◌++◌, true, false, is_ok, length, codes, Some, option_map, IfOk, OnOk, OnErr, vec_capacity};
+ghost use Rattle.std.specs.Prelude.{◌≡◌, ◌≤◌, ◌+◌, ◌*◌, List, [], ◌++◌, true, false, is_ok, length, codes, Some, option_map, IfOk, OnOk, OnErr, vec_capacity};
 ghost use Rattle.std.specs.Fmt.{decimal};
 ghost use Rattle.std.specs.List.{list_any, list_all};
 ghost use Rattle.named_tables.specs.Tables.{table_values};
@@ -78,7 +78,7 @@ fn hand_over<D: Folder, G: Folder>(
         (folder_in_call G.state own.old own.new) response) }
     ensures count { length destinations.new.items ≡ length destinations.old.items }
 {
-    let most = destinations.len().max(2);
+    let most = destinations.len().saturating_add(2);
     let room = Vec::with_capacity(alloc, most.saturating_mul(LINE))?;
     let ends = write_tables(alloc, destinations, own, into, tables)?;
     report(text, room, &ends)
@@ -99,7 +99,7 @@ fn write_tables<D: Folder, G: Folder>(
     ensures err { OnErr result (AllStays
         (destinations_in_call D.state destinations.old.items destinations.new.items)
         (folder_in_call G.state own.old own.new)) }
-    ensures ends { IfOk result (λ ends. length ends.items ≤ max (length destinations.old.items) 2) }
+    ensures ends { IfOk result (λ ends. length ends.items ≤ length destinations.old.items + 2) }
     ensures count { length destinations.new.items ≡ length destinations.old.items }
 {
     match into {
