@@ -1,5 +1,5 @@
 -- Where the tables of an answer go: what becomes of them, by how the calls that write them ended.
-use Rattle.std.proofs.Common.{◌≡◌, ◌⊎◌, inl, inr, ℕ, ◌+◌, ◌≤◌, arith, true, false, List, [], ◌∷◌, length, Option, Some, None, sym, ap, subst, ◌∙◌}
+use Rattle.std.proofs.Common.{◌≡◌, inr, ℕ, ◌+◌, ◌≤◌, arith, true, false, List, length, Option, Some, None, sym, ap, subst}
 use Rattle.std.specs.Prelude.{MatchOption, Result, Ok, Err, IfOk, OnOk, OnErr}
 use Rattle.std.specs.List.{list_any}
 use Rattle.named_tables.specs.Tables.{TableValue}

@@ -1,6 +1,6 @@
 //! The script that loads all tables of a migration.
 
-ghost use Rattle.std.specs.Prelude.{◌≡◌, ◌++◌, All, IfOk, IsTrue, codes};
+ghost use Rattle.std.specs.Prelude.{◌≡◌, [], ◌∷◌, ◌++◌, All, IfOk, IsTrue, codes};
 ghost use Rattle.std.specs.List.{flat_map};
 ghost use Rattle.destinations.specs.Formats.{table_text};
 ghost use Rattle.destinations.specs.Writing.{AddsBytes, WritesFile};

@@ -1,5 +1,5 @@
 -- What is left to prove of `hand_over`: its clauses `ends` and `err`, by `reported` and `left`.
-use Rattle.std.proofs.Common.{List, Option, inl, ap, refl, subst, sym}
+use Rattle.std.proofs.Common.{Option, inl, ap, refl, subst, sym}
 use Rattle.named_tables.specs.Tables.{table_values}
 use Rattle.desk_responses.specs.ResponseValues.{OwnFolder}
 use Rattle.desk_delivery.specs.Outcomes.{OutcomeValue, Written, destinations_in_call, folder_in_call}

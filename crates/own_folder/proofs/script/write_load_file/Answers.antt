@@ -28,7 +28,7 @@ returns-in-Err-begin g c =
     record {
       writes = file_not_begun (load_file c.args.path.now c.args.script.now (chosen_values c.args.rows.now c.args.tables.now)) (state c.args.folder.now)
           (state c.begin.new.self) _ c.in-Err-begin.ensures.closed c.in-Err-begin.ensures.is_open
-          (subst (λ (name : List ℕ). BeginsName {T = Unit {0}} name (state c.args.folder.now).begun (state c.begin.new.self).begun (Err _))
+          (subst (λ (name : List ℕ). BeginsName {T = Unit {0}} name (state c.args.folder.now).begun (state c.begin.new.self).begun (Err c.in-Err-begin.fault))
           (c.deref.ensures.value ∙ c.in-Ok.ensures.name) c.in-Err-begin.ensures.begins)
           c.in-Err-begin.ensures.cause;
     }
@@ -48,8 +48,8 @@ returns-in-Ok-write_script g c =
           c.end.ensures.ended c.end.ensures.closed c.end.ensures.is_open c.end.ensures.same c.end.ensures.cause;
     }
 
-pub returns-in-Err-write_script : goal.returns-in-Err-write_script
-returns-in-Err-write_script g c =
+pub returns : goal.returns
+returns g c =
     let state = g.F.Folder.state in
     record {
       writes = file_given_up (load_file c.args.path.now c.args.script.now (chosen_values c.args.rows.now c.args.tables.now)) (state c.args.folder.now)

@@ -3,4 +3,4 @@ use Rattle.std.proofs.Common.{rules}
 use Rattle.own_folder.proofs.writer.write_own_folder.Goals as goal
 
 pub returns-clause-written : goal.returns-clause-written
-returns-clause-written g c = (c.make_and_write.result.0, c.make_and_write.result.1, search rules, c.make_and_write.ensures.written)
+returns-clause-written g c = (c.make_and_write-csv.result.0, c.make_and_write-csv.result.1, search rules, c.make_and_write-csv.ensures.written)

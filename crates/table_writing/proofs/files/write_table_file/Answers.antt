@@ -18,7 +18,7 @@ returns-in-Err-begin g c =
     record {
       writes = file_not_begun (table_file c.args.front.now c.args.format (chosen_value c.args.rows.now c.args.table.now)) (state c.args.folder.now)
           (state c.begin.new.self) _ c.in-Err-begin.ensures.closed c.in-Err-begin.ensures.is_open
-          (subst (λ (name : List ℕ). BeginsName {T = Unit {0}} name (state c.args.folder.now).begun (state c.begin.new.self).begun (Err _))
+          (subst (λ (name : List ℕ). BeginsName {T = Unit {0}} name (state c.args.folder.now).begun (state c.begin.new.self).begun (Err c.in-Err-begin.fault))
           (c.deref.ensures.value ∙ c.in-Ok.ensures.name) c.in-Err-begin.ensures.begins)
           c.in-Err-begin.ensures.cause;
     }
@@ -34,8 +34,8 @@ returns-in-Ok-write_table g c =
           c.in-Ok-write_table.ensures.adds c.end.ensures.ended c.end.ensures.closed c.end.ensures.is_open c.end.ensures.same c.end.ensures.cause;
     }
 
-pub returns-in-Err-write_table : goal.returns-in-Err-write_table
-returns-in-Err-write_table g c =
+pub returns : goal.returns
+returns g c =
     let state = g.F.Folder.state in
     record {
       writes = file_given_up (table_file c.args.front.now c.args.format (chosen_value c.args.rows.now c.args.table.now)) (state c.args.folder.now)
