@@ -16,10 +16,10 @@ says_yes response tables given =
     ap (λ (s : Status). record { status = s; text = response.text.items })
     (response.yes (ap is_some given))
 
-pub returns-in-Some-clause-ends : goal.returns-in-Some-clause-ends
-returns-in-Some-clause-ends g c =
+pub returns-clause-ends : goal.returns-clause-ends
+returns-clause-ends g c =
     comes_to _ _ (response_value c.args.response) (table_values c.in-Some.tables) c.hand_over.result (ap (option_map table_values) c.in-Some.is)
     (c.hand_over.ensures.ends (response_value c.args.response) (says_yes c.args.response c.in-Some.tables c.in-Some.is) refl)
 
-pub returns-in-Some-clause-err : goal.returns-in-Some-clause-err
-returns-in-Some-clause-err g c = c.hand_over.ensures.err (response_value c.args.response) (ap (option_map table_values) c.in-Some.is) refl
+pub returns-clause-err : goal.returns-clause-err
+returns-clause-err g c = c.hand_over.ensures.err (response_value c.args.response) (ap (option_map table_values) c.in-Some.is) refl

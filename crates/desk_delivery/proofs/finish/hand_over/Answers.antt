@@ -3,7 +3,7 @@ use Rattle.std.proofs.Common.{Option, inl, ap, refl, subst, sym}
 use Rattle.named_tables.specs.Tables.{table_values}
 use Rattle.desk_responses.specs.ResponseValues.{OwnFolder}
 use Rattle.desk_delivery.specs.Outcomes.{OutcomeValue, Written, destinations_in_call, folder_in_call}
-use Rattle.desk_delivery.proofs.WrittenLemmas.{left, reported}
+use Rattle.desk_delivery.proofs.WrittenLemmas.{left, on_err, reported}
 use Rattle.desk_delivery.proofs.finish.hand_over.Goals as goal
 
 pub returns-clause-ends : goal.returns-clause-ends
@@ -26,7 +26,7 @@ returns-clause-err g c = λ response given into_is.
     (rw c.deref.ensures.value at c.report.ensures.wanted)
 
 pub returns-in_err-room-clause-err : goal.returns-in_err-room-clause-err
-returns-in_err-room-clause-err g c = λ response given into_is. inl (refl, refl)
+returns-in_err-room-clause-err g c = λ response given into_is. on_err _ (inl (refl, refl))
 
 pub returns-in_err-ends-clause-err : goal.returns-in_err-ends-clause-err
-returns-in_err-ends-clause-err g c = λ response given into_is. inl c.in_err-ends.ensures.err
+returns-in_err-ends-clause-err g c = λ response given into_is. on_err _ (inl c.in_err-ends.ensures.err)

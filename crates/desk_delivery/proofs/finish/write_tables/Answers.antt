@@ -31,9 +31,9 @@ returns-in-Some g c =
     record {
       written = to_folder (λ ends. ends.items) destinations own (option_map own_folder_value c.args.into.now) folder tables result
           (ap (option_map own_folder_value) c.in-Some.is) refl
-          (rw c.deref-2.ensures.value at (rw c.deref.ensures.value at c.write_own_folder.ensures.written));
+          (rw c.deref-in-Some.ensures.value at (rw c.deref.ensures.value at c.write_own_folder.ensures.written));
       err = all_stay destinations own result (on_err result refl) c.write_own_folder.ensures.err;
       ends = two_ends (λ ends. ends.items) own folder tables result (length c.args.destinations.now.items)
-          (rw c.deref-2.ensures.value at (rw c.deref.ensures.value at c.write_own_folder.ensures.written));
+          (rw c.deref-in-Some.ensures.value at (rw c.deref.ensures.value at c.write_own_folder.ensures.written));
       count = refl;
     }
