@@ -15,33 +15,38 @@ use crate::words::words;
 use arguments::Argument;
 use dep_model::OutOfMemory;
 use desk_cli::desk;
-use desk_outside::{FileFolder, ProgressLine, RealFiles, StdoutSink};
+use desk_outside::{FileFolder, Folder, ProgressLine, RealFiles, StdoutSink};
 use desk_process::{NoticeSink, exit_code};
-use destinations::{Destination, FileDestination, TableFormat};
-use own_folder::{OwnFolderWriter, RealFolders};
+use destinations::{BufferedFolder, Destination, TableFormat};
 use row_store::Hashing;
 use std::io::IsTerminal;
 use std::process::ExitCode;
 use std::rt::Runtime;
 
-type TableFiles<R> = FileDestination<FileFolder<R>>;
-
-type FolderFiles<R> = OwnFolderWriter<RealFolders<R>, FileFolder<R>>;
+type CurrentFolder<R> = BufferedFolder<FileFolder<R>>;
 
 // The trait objects are made here, since a function that hands them out could not be proved for all.
 fn main(rt: HostRuntime) -> ExitCode {
     let alloc = rt.alloc();
     let (Ok((words, mut source)), Ok((csv, sql)), Ok(mut own)) = (
         words_and_files(&rt),
-        file_destinations(&rt),
-        own_folder(&rt),
+        two_folders(&rt),
+        current_folder(&rt),
     ) else {
         return exit_code(Err(OutOfMemory));
     };
     let (Ok(csv), Ok(sql)) = (Box::new(alloc, csv), Box::new(alloc, sql)) else {
         return exit_code(Err(OutOfMemory));
     };
-    let mut destinations: Vec<Box<dyn Destination>> = Vec::new(alloc);
+    let mut destinations: Vec<Destination<Box<dyn Folder>>> = Vec::new(alloc);
+    let csv = Destination {
+        format: TableFormat::Csv,
+        folder: csv,
+    };
+    let sql = Destination {
+        format: TableFormat::Sql,
+        folder: sql,
+    };
     if destinations.push(csv).is_err() || destinations.push(sql).is_err() {
         return exit_code(Err(OutOfMemory));
     }
@@ -69,30 +74,19 @@ fn words_and_files<R: Runtime + AllocGlobal>(
     Ok((words, RealFiles::new(rt.alloc(), clone_of(rt)?)))
 }
 
-// The destinations whose tables become files.
-fn file_destinations<R: Runtime + AllocGlobal>(
+// The folders of the two destinations.
+fn two_folders<R: Runtime + AllocGlobal>(
     rt: &R,
-) -> Result<(TableFiles<R>, TableFiles<R>), OutOfMemory> {
-    let csv = file_destination(rt, TableFormat::Csv)?;
-    let sql = file_destination(rt, TableFormat::Sql)?;
+) -> Result<(CurrentFolder<R>, CurrentFolder<R>), OutOfMemory> {
+    let csv = current_folder(rt)?;
+    let sql = current_folder(rt)?;
     Ok((csv, sql))
 }
 
-// A destination over the current folder, which has begun no file.
-fn file_destination<R: Runtime + AllocGlobal>(
-    rt: &R,
-    format: TableFormat,
-) -> Result<TableFiles<R>, OutOfMemory> {
+// The current folder, in which nothing is begun yet.
+fn current_folder<R: Runtime + AllocGlobal>(rt: &R) -> Result<CurrentFolder<R>, OutOfMemory> {
     let alloc = rt.alloc();
-    FileDestination::new(alloc, format, FileFolder::new(alloc, clone_of(rt)?))
-}
-
-// The writer of a folder of its own below the current folder.
-fn own_folder<R: Runtime + AllocGlobal>(rt: &R) -> Result<FolderFiles<R>, OutOfMemory> {
-    let alloc = rt.alloc();
-    let place = RealFolders::new(alloc, clone_of(rt)?);
-    let folder = FileFolder::new(alloc, clone_of(rt)?);
-    OwnFolderWriter::new(alloc, place, folder)
+    BufferedFolder::new(alloc, FileFolder::new(alloc, clone_of(rt)?))
 }
 
 // The runtime once more, for an object that keeps it.

@@ -5,10 +5,11 @@ use Rattle.dep_model.specs.declared.memory.OutOfMemory.{OutOfMemory}
 use Rattle.desk_outside.specs.Begun.{Begun}
 use Rattle.desk_outside.specs.Causes.{ErrorCountIncreased, TookPart}
 use Rattle.desk_outside.specs.Files.{Files}
+use Rattle.desk_outside.specs.FreeNames.{may_be_free}
 use Rattle.desk_responses.specs.declared.status.Status.{Status}
 use Rattle.desk_responses.specs.declared.status.Status.TheVariants.{Yes, No, Refused, CannotRead, CannotWrite, DestinationFailed}
 use Rattle.desk_responses.specs.ResponseValues.{ResponseValue, Allowed}
-use Rattle.desk_delivery.specs.Outcomes.{OutcomeValue, Outcomes, outcome_of_response, DestinationsInCall, OwnInCall, ComesTo, EndsAs, LeavesPart, Leaves, NoneFails, OwnIsFine, OwnStays, HaveTables}
+use Rattle.desk_delivery.specs.Outcomes.{OutcomeValue, Outcomes, outcome_of_response, DestinationsInCall, FolderInCall, AllStays, ComesTo, EndsAs, LeavesPart, Leaves, NoneFails, HaveTables}
 use Rattle.desk_cli.specs.FilesRead.{files_of_words}
 use Rattle.desk_cli.specs.Help.{hint_of}
 use Rattle.desk_cli.specs.Performs.{Answers}
@@ -95,7 +96,7 @@ WritesPart sink notices hint endings status =
 
 -- the sink took just the text of an answer with this status, where its tables went has all of them, and the sink of
 -- notices took its notice
-abbrev pub Delivers : SinkInCall → SinkInCall → List ℕ → DestinationsInCall → OwnInCall → Allowed → Status → Type 0
+abbrev pub Delivers : SinkInCall → SinkInCall → List ℕ → DestinationsInCall → FolderInCall → Allowed → Status → Type 0
 Delivers sink notices hint destinations own allowed status =
     (response : ResponseValue) × allowed response × (status ≡ response.status)
     × (sink.new ≡ append_known sink.old response.text) × HaveTables destinations own response
@@ -107,7 +108,7 @@ IsNoOrStops status = (status ≡ No) ⊎ ((status ≡ Refused) ⊎ (status ≡ C
 
 -- what becomes of an answer, with a hint: the sink took the text that it comes to, or writing failed
 pub record Delivered (sink notices : SinkInCall) (hint : List ℕ) (destinations : DestinationsInCall)
-    (own : OwnInCall) (response : ResponseValue) (result : Result Status OutOfMemory) : Type 0 where
+    (own : FolderInCall) (response : ResponseValue) (result : Result Status OutOfMemory) : Type 0 where
   pub ends : (status : Status) → result ≡ Ok status
       → WritesWhole sink notices hint (ComesTo destinations own response) status
       ⊎ WritesPart sink notices hint (ComesTo destinations own response) status
@@ -117,31 +118,35 @@ pub record Delivered (sink notices : SinkInCall) (hint : List ℕ) (destinations
   pub later : sink.before ≤ sink.after
   pub notes_later : notices.before ≤ notices.after
 
-pub record Desk (words : List (List ℕ)) (looks : Looks) (source : FileSourceInCall) (sink notices : SinkInCall)
-    (destinations : DestinationsInCall) (own : OwnInCall) (result : Result Status OutOfMemory) : Type 0 where
+-- how looks at names may be answered in the folder in which folders of their own are made and written
+abbrev pub looks_in : FolderInCall → Looks
+looks_in own = may_be_free (own.state own.old).contents
+
+pub record Desk (words : List (List ℕ)) (source : FileSourceInCall) (sink notices : SinkInCall)
+    (destinations : DestinationsInCall) (own : FolderInCall) (result : Result Status OutOfMemory) : Type 0 where
   -- the files that were begun are the first of those that the words name, in their order, each once
   pub reads : BeginsFront (files_of_words words) source.begun_before source.begun_after
   -- the call ends as an answer that the words and the files allow, and the sink took the text; no file
   -- but the last that was begun is one that cannot be read
   pub response : (last : Option (List ℕ)) → IsLastBegun source last → (status : Status) → result ≡ Ok status
       → WritesWhole sink notices (hint_of words)
-      (EndsAs destinations own (Answers looks (reading_in_call source last) words)) status
+      (EndsAs destinations own (Answers (looks_in own) (reading_in_call source last) words)) status
       ⊎ WritesPart sink notices (hint_of words)
-      (EndsAs destinations own (Answers looks (reading_in_call source last) words)) status
+      (EndsAs destinations own (Answers (looks_in own) (reading_in_call source last) words)) status
   -- where the files are known and nothing failed, it is the answer of those files, whole, with all
   -- tables
   pub complete : (files : Files) → source.files ≡ Some files → (ErrorCountIncreased source.before source.after → ⊥)
-      → (ErrorCountIncreased sink.before sink.after → ⊥) → NoneFails destinations → OwnIsFine own
+      → (ErrorCountIncreased sink.before sink.after → ⊥) → NoneFails destinations own
       → (status : Status) → result ≡ Ok status
-      → Delivers sink notices (hint_of words) destinations own (Answers looks (known_files files) words) status
+      → Delivers sink notices (hint_of words) destinations own (Answers (looks_in own) (known_files files) words) status
   -- only the answer yes gives tables
   pub stay : (status : Status) → result ≡ Ok status → IsNoOrStops status
-      → (destinations.new ≡ destinations.old) × OwnStays own
+      → AllStays destinations own
   -- where memory ran out nothing was written, and all is as it was, or where the tables of an answer went has a
   -- part of them, since that ran out of memory
   pub memory : (last : Option (List ℕ)) → IsLastBegun source last → (e : OutOfMemory) → result ≡ Err e
       → (sink.new ≡ sink.old) × (notices.new ≡ notices.old)
-      × Leaves destinations own (Answers looks (reading_in_call source last) words)
+      × Leaves destinations own (Answers (looks_in own) (reading_in_call source last) words)
   pub destinations_stay : length destinations.new ≡ length destinations.old
   pub files_stay : source.files_after ≡ source.files
   pub reads_later : source.before ≤ source.after

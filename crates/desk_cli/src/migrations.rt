@@ -2,6 +2,7 @@
 
 ghost use Rattle.std.specs.Prelude.{◌≡◌, ◌≤◌, ◌∷◌, []};
 ghost use Rattle.desk_inputs.specs.FileKinds.{WithFile};
+ghost use Rattle.desk_outside.specs.FreeNames.{may_be_free};
 ghost use Rattle.desk_inputs.specs.FilesBegun.{BeginsFront};
 ghost use Rattle.desk_inputs.specs.Plans.{plan_file};
 ghost use Rattle.desk_inputs.specs.Readings.{Reading, Shows};
@@ -13,10 +14,9 @@ ghost use Rattle.desk_tables.specs.OwnFolders.{MigratesInto, MigratesPlanInto};
 use arguments::Argument;
 use dep_model::Form;
 use desk_inputs::{open_plan, open_rows};
-use desk_outside::FileSource;
+use desk_outside::{FileSource, Folder};
 use desk_responses::{EarlyExit, Response};
 use desk_tables::{migrate_form_here, migrate_form_into, migrate_plan_here, migrate_plan_into};
-use own_folder::FolderMaker;
 use row_store::Hashing;
 use schema_model::Schema;
 use std::alloc::Global;
@@ -95,11 +95,11 @@ pub fn of_plan_and_rows<F: FileSource>(
 }
 
 /// The rows of a file, as tables in a normal form, in a folder of their own.
-pub fn of_rows_into<F: FileSource, M: FolderMaker>(
+pub fn of_rows_into<F: FileSource, G: Folder>(
     alloc: Global,
     hashing: Hashing,
     source: &mut F,
-    place: &M,
+    place: &G,
     schema: &Schema,
     file: &Argument,
     form: Form,
@@ -111,7 +111,7 @@ pub fn of_rows_into<F: FileSource, M: FolderMaker>(
         (F.begun source.old) (F.begun source.new) }
     ensures response { (r : Reading) → Shows F.files F.faults F.taken F.begun source.old source.new r
         → RespondsAs (WithFile (rows_file schema.now) r file.now
-        (MigratesInto (M.may_be_free place.now) schema.now form folder.now)) result }
+        (MigratesInto (may_be_free (G.state place.now).contents) schema.now form folder.now)) result }
 {
     let rows = match open_rows(alloc, source, schema, file) {
         Ok(rows) => rows,
@@ -122,11 +122,11 @@ pub fn of_rows_into<F: FileSource, M: FolderMaker>(
 }
 
 /// The rows of a file, as tables of the plan of another, in a folder of their own.
-pub fn of_plan_and_rows_into<F: FileSource, M: FolderMaker>(
+pub fn of_plan_and_rows_into<F: FileSource, G: Folder>(
     alloc: Global,
     hashing: Hashing,
     source: &mut F,
-    place: &M,
+    place: &G,
     schema: &Schema,
     planned: &Argument,
     file: &Argument,
@@ -139,7 +139,8 @@ pub fn of_plan_and_rows_into<F: FileSource, M: FolderMaker>(
     ensures response { (r : Reading) → Shows F.files F.faults F.taken F.begun source.old source.new r
         → RespondsAs (WithFile (plan_file schema.now) r planned.now
         (λ plan. WithFile (rows_file schema.now) r file.now
-        (MigratesPlanInto (M.may_be_free place.now) schema.now plan.names plan.schemes folder.now))) result }
+        (MigratesPlanInto (may_be_free (G.state place.now).contents) schema.now plan.names plan.schemes
+        folder.now))) result }
 {
     let plan = match open_plan(alloc, source, schema, planned) {
         Ok(plan) => plan,

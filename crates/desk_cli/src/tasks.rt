@@ -7,6 +7,7 @@ ghost use Rattle.desk_words.specs.Commands.{pair_question, plan_question, rows_q
 ghost use Rattle.table_join.specs.Tables.{tables_of};
 ghost use Rattle.desk_implication.specs.Certificates.{ChecksProof};
 ghost use Rattle.desk_inputs.specs.FileKinds.{WithFile};
+ghost use Rattle.desk_outside.specs.FreeNames.{may_be_free};
 ghost use Rattle.desk_inputs.specs.FilesBegun.{BeginsFront};
 ghost use Rattle.desk_discovery.specs.AllDiscoveries.{FindsAllRules};
 ghost use Rattle.desk_inputs.specs.Headed.{headed_file, whole_file};
@@ -33,22 +34,21 @@ use desk_inputs::{
     open_schema,
 };
 use desk_measures::{measure_rows, text_columns_alone};
-use desk_outside::FileSource;
+use desk_outside::{FileSource, Folder};
 use desk_reports::report_schema;
 use desk_responses::{EarlyExit, Response};
 use desk_tables::rejoin;
 use desk_words::{MOST_FILES, PairQuestion, PlanQuestion, RowsQuestion, RulesQuestion, Task};
-use own_folder::FolderMaker;
 use row_store::Hashing;
 use schema_model::Schema;
 use std::alloc::Global;
 
 /// Answers what is asked of the schema of a file.
-pub fn over_schema<F: FileSource, M: FolderMaker>(
+pub fn over_schema<F: FileSource, G: Folder>(
     alloc: Global,
     hashing: Hashing,
     source: &mut F,
-    place: &M,
+    place: &G,
     file: &Argument,
     task: Task<'_>,
 ) -> Result<Response, EarlyExit>
@@ -58,7 +58,7 @@ pub fn over_schema<F: FileSource, M: FolderMaker>(
         (F.begun source.old) (F.begun source.new) }
     ensures response { (r : Reading) → Shows F.files F.faults F.taken F.begun source.old source.new r
         → RespondsAs (WithFile schema_file r file.now
-        (λ schema. Does (M.may_be_free place.now) r schema (task_form task.entry))) result }
+        (λ schema. Does (may_be_free (G.state place.now).contents) r schema (task_form task.entry))) result }
 {
     let schema = match open_schema(alloc, source, file) {
         Ok(schema) => schema,
@@ -69,11 +69,11 @@ pub fn over_schema<F: FileSource, M: FolderMaker>(
 
 // Answers what is asked of a schema and the files after its own.
 #[tactic(auto, unfolding(crate::specs::Performs::Does))]
-fn perform_task<F: FileSource, M: FolderMaker>(
+fn perform_task<F: FileSource, G: Folder>(
     alloc: Global,
     hashing: Hashing,
     source: &mut F,
-    place: &M,
+    place: &G,
     schema: &Schema,
     task: Task<'_>,
 ) -> Result<Response, EarlyExit>
@@ -82,7 +82,7 @@ fn perform_task<F: FileSource, M: FolderMaker>(
     ensures reads { BeginsFront (files_of_task (task_form task.entry))
         (F.begun source.old) (F.begun source.new) }
     ensures response { (r : Reading) → Shows F.files F.faults F.taken F.begun source.old source.new r
-        → RespondsAs (Does (M.may_be_free place.now) r schema.now (task_form task.entry)) result }
+        → RespondsAs (Does (may_be_free (G.state place.now).contents) r schema.now (task_form task.entry)) result }
 {
     match task {
         Task::OfSchema { question } => answer_schema(alloc, schema, question),

@@ -2,8 +2,8 @@ ghost use Rattle.std.specs.Prelude.{◌≡◌, ◌≤◌, IfOk};
 ghost use Rattle.desk_words.specs.Commands.{command_form};
 ghost use Rattle.desk_cli.specs.Desk.{Desk, Delivered, Notes, is_answer, notice_text, source_in_call, sink_in_call};
 ghost use Rattle.desk_cli.specs.Help.{hint_of};
-ghost use Rattle.desk_delivery.specs.Outcomes.{destinations_in_call, own_in_call};
-ghost use Rattle.own_folder.specs.OwnWriting.{folder_in_call, place_in_call};
+ghost use Rattle.desk_delivery.specs.Outcomes.{destinations_in_call, folder_in_call};
+ghost use Rattle.desk_outside.specs.FreeNames.{may_be_free};
 ghost use Rattle.desk_cli.specs.FilesRead.{files_of_command, files_of_words};
 ghost use Rattle.desk_cli.specs.Performs.{Performs, Answers};
 ghost use Rattle.desk_inputs.specs.FilesBegun.{BeginsFront};
@@ -23,12 +23,11 @@ use desk_tables::migrate_sample;
 use desk_texts::line_of;
 use desk_words::{Command, parse};
 use destinations::Destination;
-use own_folder::{FolderMaker, OwnFolderWriter};
 use row_store::Hashing;
 use std::alloc::Global;
 
 /// Answers the words over the files of the file source, in a status, a text that goes to the sink, and
-/// tables that go to the destinations, or to a folder of their own, which is made at the place of `own`.
+/// tables that go to the destinations, or to a folder of their own, which is looked for, made and written in `own`.
 /// The text of an answer that is neither yes nor no goes to the sink of notices too, and where the words form
 /// no command the nearest lines of `help` after it; whether that can be written changes no status.
 ///
@@ -37,17 +36,17 @@ use std::alloc::Global;
 /// in the order of the words (read, its length, its grammar), then the goal (its length, its grammar),
 /// then the answer, then the destinations or the folder, then the sink; the first that applies
 /// decides. The notice is written after the text. Values are hashed as the caller says, which changes no answer.
-pub fn desk<F: FileSource, K: Sink, N: Sink, M: FolderMaker, G: Folder>(
+pub fn desk<F: FileSource, K: Sink, N: Sink, G: Folder>(
     alloc: Global,
     hashing: Hashing,
     words: &[Argument],
     source: &mut F,
     out: &mut K,
     notices: &mut N,
-    destinations: &mut Vec<Box<dyn Destination>>,
-    own: &mut OwnFolderWriter<M, G>,
+    destinations: &mut Vec<Destination<Box<dyn Folder>>>,
+    own: &mut G,
 ) -> Result<Status, OutOfMemory>
-    ensures desk { Desk words.now (M.may_be_free own.old.place)
+    ensures desk { Desk words.now
         (source_in_call (F.files source.old) (F.files source.new) (F.faults source.old)
         (F.faults source.new)
         (F.taken source.new)
@@ -55,13 +54,8 @@ pub fn desk<F: FileSource, K: Sink, N: Sink, M: FolderMaker, G: Folder>(
         (F.begun source.new))
         (sink_in_call (K.contents out.old) (K.contents out.new) (K.faults out.old) (K.faults out.new))
         (sink_in_call (N.contents notices.old) (N.contents notices.new) (N.faults notices.old) (N.faults notices.new))
-        (destinations_in_call ⟦<Box<dyn Destination> as Destination>⟧.is_known
-        ⟦<Box<dyn Destination> as Destination>⟧.finished
-        ⟦<Box<dyn Destination> as Destination>⟧.begun
-        ⟦<Box<dyn Destination> as Destination>⟧.width
-        ⟦<Box<dyn Destination> as Destination>⟧.faults destinations.old.items destinations.new.items)
-        (own_in_call (place_in_call M.made M.faults own.old.place own.new.place)
-        (folder_in_call G.contents G.begun G.faults own.old.folder.folder own.new.folder.folder))
+        (destinations_in_call ⟦<Box<dyn Folder> as Folder>⟧.state destinations.old.items destinations.new.items)
+        (folder_in_call G.state own.old own.new)
         result }
 {
     desk_over(
@@ -77,17 +71,17 @@ pub fn desk<F: FileSource, K: Sink, N: Sink, M: FolderMaker, G: Folder>(
 }
 
 // The same over destinations of one type.
-fn desk_over<F: FileSource, K: Sink, N: Sink, T: Destination, M: FolderMaker, G: Folder>(
+fn desk_over<F: FileSource, K: Sink, N: Sink, D: Folder, G: Folder>(
     alloc: Global,
     hashing: Hashing,
     words: &[Argument],
     source: &mut F,
     out: &mut K,
     notices: &mut N,
-    destinations: &mut Vec<T>,
-    own: &mut OwnFolderWriter<M, G>,
+    destinations: &mut Vec<Destination<D>>,
+    own: &mut G,
 ) -> Result<Status, OutOfMemory>
-    ensures desk { Desk words.now (M.may_be_free own.old.place)
+    ensures desk { Desk words.now
         (source_in_call (F.files source.old) (F.files source.new) (F.faults source.old)
         (F.faults source.new)
         (F.taken source.new)
@@ -95,36 +89,32 @@ fn desk_over<F: FileSource, K: Sink, N: Sink, T: Destination, M: FolderMaker, G:
         (F.begun source.new))
         (sink_in_call (K.contents out.old) (K.contents out.new) (K.faults out.old) (K.faults out.new))
         (sink_in_call (N.contents notices.old) (N.contents notices.new) (N.faults notices.old) (N.faults notices.new))
-        (destinations_in_call T.is_known T.finished T.begun T.width T.faults destinations.old.items
-        destinations.new.items)
-        (own_in_call (place_in_call M.made M.faults own.old.place own.new.place)
-        (folder_in_call G.contents G.begun G.faults own.old.folder.folder own.new.folder.folder))
+        (destinations_in_call D.state destinations.old.items destinations.new.items)
+        (folder_in_call G.state own.old own.new)
         result }
 {
-    let response = answer(alloc, hashing, words, source, &own.place)?;
+    let response = answer(alloc, hashing, words, source, own)?;
     let hint = hint(alloc, words)?;
     deliver(alloc, response, &hint, out, notices, destinations, own)
 }
 
-/// Hands the tables of a response to the destinations, or to a folder of their own, its text to the sink, and then
+/// Writes the tables of a response to the destinations, or to a folder of their own, its text to the sink, and then
 /// its notice, with a hint, to the sink of notices.
-pub fn deliver<K: Sink, N: Sink, T: Destination, M: FolderMaker, G: Folder>(
+pub fn deliver<K: Sink, N: Sink, D: Folder, G: Folder>(
     alloc: Global,
     response: Response,
     hint: &[u8],
     out: &mut K,
     notices: &mut N,
-    destinations: &mut Vec<T>,
-    own: &mut OwnFolderWriter<M, G>,
+    destinations: &mut Vec<Destination<D>>,
+    own: &mut G,
 ) -> Result<Status, OutOfMemory>
     ensures delivers { Delivered
         (sink_in_call (K.contents out.old) (K.contents out.new) (K.faults out.old) (K.faults out.new))
         (sink_in_call (N.contents notices.old) (N.contents notices.new) (N.faults notices.old) (N.faults notices.new))
         hint.now
-        (destinations_in_call T.is_known T.finished T.begun T.width T.faults destinations.old.items
-        destinations.new.items)
-        (own_in_call (place_in_call M.made M.faults own.old.place own.new.place)
-        (folder_in_call G.contents G.begun G.faults own.old.folder.folder own.new.folder.folder))
+        (destinations_in_call D.state destinations.old.items destinations.new.items)
+        (folder_in_call G.state own.old own.new)
         (response_value response) result }
 {
     let end = deliver_tables(alloc, destinations, own, response)?;
@@ -186,18 +176,19 @@ fn hint(alloc: Global, words: &[Argument]) -> Result<Vec<u8>, OutOfMemory>
 }
 
 /// The response to the words.
-fn answer<F: FileSource, M: FolderMaker>(
+fn answer<F: FileSource, G: Folder>(
     alloc: Global,
     hashing: Hashing,
     words: &[Argument],
     source: &mut F,
-    place: &M,
+    place: &G,
 ) -> Result<Response, OutOfMemory>
     ensures files { F.files source.new ≡ F.files source.old }
     ensures later { F.faults source.old ≤ F.faults source.new }
     ensures reads { BeginsFront (files_of_words words.now) (F.begun source.old) (F.begun source.new) }
     ensures response { (r : Reading) → Shows F.files F.faults F.taken F.begun source.old source.new r
-        → IfOk result (λ response. Answers (M.may_be_free place.now) r words.now (response_value response)) }
+        → IfOk result (λ response. Answers (may_be_free (G.state place.now).contents) r words.now
+        (response_value response)) }
 {
     match parse(words) {
         None => Ok(Response::with_text(
@@ -214,19 +205,19 @@ fn answer<F: FileSource, M: FolderMaker>(
 
 /// Performs a command.
 #[tactic(auto, unfolding(crate::specs::Performs::Performs))]
-fn perform<F: FileSource, M: FolderMaker>(
+fn perform<F: FileSource, G: Folder>(
     alloc: Global,
     hashing: Hashing,
     command: Command<'_>,
     source: &mut F,
-    place: &M,
+    place: &G,
 ) -> Result<Response, EarlyExit>
     ensures files { F.files source.new ≡ F.files source.old }
     ensures later { F.faults source.old ≤ F.faults source.new }
     ensures reads { BeginsFront (files_of_command (command_form command.entry))
         (F.begun source.old) (F.begun source.new) }
     ensures response { (r : Reading) → Shows F.files F.faults F.taken F.begun source.old source.new r
-        → RespondsAs (Performs (M.may_be_free place.now) r (command_form command.entry)) result }
+        → RespondsAs (Performs (may_be_free (G.state place.now).contents) r (command_form command.entry)) result }
 {
     match command {
         Command::OverSchema { schema, task } => over_schema(

@@ -1,2 +1,3 @@
-pub mod FolderLemmas
+pub mod EndLemmas
 pub mod ReportLemmas
+pub mod WrittenLemmas

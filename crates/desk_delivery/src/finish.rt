@@ -1,23 +1,22 @@
-ghost use Rattle.std.specs.Prelude.{◌≡◌, ◌⊎◌, ◌≤◌, ◌+◌, ◌*◌, List, [], ◌++◌, true, false, length, codes, IfOk, OnOk, OnErr, vec_capacity};
+ghost use Rattle.std.specs.Prelude.{◌≡◌, ◌≤◌, ◌+◌, ◌*◌, [], ◌++◌, true, false, is_ok, length, codes, Some, option_map, IfOk, OnOk, OnErr, vec_capacity};
 ghost use Rattle.std.specs.Fmt.{decimal};
 ghost use Rattle.std.specs.List.{list_any, list_all};
 ghost use Rattle.named_tables.specs.Tables.{table_values};
 ghost use Rattle.desk_responses.specs.ResponseValues.{ResponseValue};
-ghost use Rattle.own_folder.specs.OwnWriting.{folder_in_call, place_in_call};
 ghost use Rattle.desk_delivery.specs.declared.finish.TheConstants.{LINE};
-ghost use Rattle.desk_delivery.specs.Outcomes.{destinations_in_call, is_done, is_out_of_memory, end_text, failures_text, outcome_of_response, own_in_call, reported_outcome, yes_outcome, ComesTo, LeavesPart, LeftInDestinations, LeftInFolder, OwnStays, WritesFolder, WritesTables, outcome_value};
+ghost use Rattle.desk_delivery.specs.Outcomes.{destinations_in_call, end_text, failures_text, folder_in_call, is_out_of_memory, outcome_of_response, outcome_value, reported_outcome, yes_outcome, AllStays, ComesTo, LeavesPart, Written, WritesTables};
 ghost use Rattle.desk_responses.specs.Responses.{own_folder_value, response_value};
 ghost use Rattle.desk_texts.specs.Texts.{line};
 
 use dep_model::OutOfMemory;
-use desk_outside::Folder;
+use desk_outside::{Folder, OutsideFault};
 use desk_responses::{OwnFolder, Response, Status};
 use destinations::Destination;
 use itoa::Buffer;
 use named_tables::ChosenTables;
-use own_folder::{FolderMaker, OwnFolderWriter};
+use own_folder::write_own_folder;
 use std::alloc::Global;
-use table_writing::{WriteOutcome, write_tables_to_list};
+use table_writing::write_tables_to_list;
 
 // The most bytes of the line for a destination that failed.
 const LINE: usize = 40;
@@ -29,27 +28,19 @@ pub struct Outcome {
     pub text: Vec<u8>,
 }
 
-/// Hands the tables of a response, if it has any, to the destinations, or to a folder of their own.
-pub fn deliver_tables<T: Destination, M: FolderMaker, G: Folder>(
+/// Writes the tables of a response, if it has any, to the destinations, or to a folder of their own.
+pub fn deliver_tables<D: Folder, G: Folder>(
     alloc: Global,
-    destinations: &mut Vec<T>,
-    own: &mut OwnFolderWriter<M, G>,
+    destinations: &mut Vec<Destination<D>>,
+    own: &mut G,
     response: Response,
 ) -> Result<Outcome, OutOfMemory>
     ensures ends { IfOk result
-        (λ end. ComesTo
-        (destinations_in_call T.is_known T.finished T.begun T.width T.faults destinations.old.items
-        destinations.new.items)
-        (own_in_call (place_in_call M.made M.faults own.old.place own.new.place)
-        (folder_in_call G.contents G.begun G.faults own.old.folder.folder own.new.folder.folder))
-        (response_value response) (outcome_value end)) }
+        (λ end. ComesTo (destinations_in_call D.state destinations.old.items destinations.new.items)
+        (folder_in_call G.state own.old own.new) (response_value response) (outcome_value end)) }
     ensures err { OnErr result
-        (LeavesPart
-        (destinations_in_call T.is_known T.finished T.begun T.width T.faults destinations.old.items
-        destinations.new.items)
-        (own_in_call (place_in_call M.made M.faults own.old.place own.new.place)
-        (folder_in_call G.contents G.begun G.faults own.old.folder.folder own.new.folder.folder))
-        (response_value response)) }
+        (LeavesPart (destinations_in_call D.state destinations.old.items destinations.new.items)
+        (folder_in_call G.state own.old own.new) (response_value response)) }
     ensures count { length destinations.new.items ≡ length destinations.old.items }
 {
     let Response {
@@ -58,71 +49,71 @@ pub fn deliver_tables<T: Destination, M: FolderMaker, G: Folder>(
         tables,
         own: into,
     } = response;
-    match (tables, into) {
-        (None, _) => Ok(Outcome { status, text }),
-        (Some(tables), None) => hand_over(alloc, destinations, text, &tables),
-        (Some(tables), Some(folder)) => fill_folder(alloc, own, text, &folder, &tables),
+    match tables {
+        None => Ok(Outcome { status, text }),
+        Some(tables) => hand_over(alloc, destinations, own, text, &into, &tables),
     }
 }
 
-// Writes these tables to a folder of their own, and then answers this text, or that the writing of the CSV
-// files or of the script failed.
-fn fill_folder<M: FolderMaker, G: Folder>(
-    alloc: Global,
-    own: &mut OwnFolderWriter<M, G>,
-    text: Vec<u8>,
-    folder: &OwnFolder,
-    tables: &ChosenTables,
-) -> Result<Outcome, OutOfMemory>
-    ensures ends { (response : ResponseValue) → outcome_of_response response ≡ yes_outcome text.items
-        → IfOk result (λ end. WritesFolder
-        (own_in_call (place_in_call M.made M.faults own.old.place own.new.place)
-        (folder_in_call G.contents G.begun G.faults own.old.folder.folder own.new.folder.folder))
-        (own_folder_value folder.now) response (table_values tables.now) (outcome_value end)) }
-    ensures err { OnErr result
-        (OwnStays
-        (own_in_call (place_in_call M.made M.faults own.old.place own.new.place)
-        (folder_in_call G.contents G.begun G.faults own.old.folder.folder own.new.folder.folder))
-        ⊎ LeftInFolder
-        (own_in_call (place_in_call M.made M.faults own.old.place own.new.place)
-        (folder_in_call G.contents G.begun G.faults own.old.folder.folder own.new.folder.folder))
-        (own_folder_value folder.now) (table_values tables.now)) }
-{
-    let room = Vec::with_capacity(alloc, 2 * LINE)?;
-    let ends = own.write(&folder.name, &folder.script, tables);
-    report(text, room, &[ends.csv, ends.load])
-}
-
-// Hands these tables to the destinations, and then answers this text, or which destinations failed.
+// Writes these tables, and then answers this text, or which destinations failed.
 //
-// All memory but that of the destinations is taken before the first call of a destination.
-fn hand_over<T: Destination>(
+// All memory but that of the writing is taken before the first call of a destination.
+fn hand_over<D: Folder, G: Folder>(
     alloc: Global,
-    destinations: &mut Vec<T>,
+    destinations: &mut Vec<Destination<D>>,
+    own: &mut G,
     text: Vec<u8>,
+    into: &Option<OwnFolder>,
     tables: &ChosenTables,
 ) -> Result<Outcome, OutOfMemory>
     ensures ends { (response : ResponseValue) → outcome_of_response response ≡ yes_outcome text.items
+        → response.own ≡ option_map own_folder_value into.now
         → IfOk result (λ end. WritesTables
-        (destinations_in_call T.is_known T.finished T.begun T.width T.faults destinations.old.items
-        destinations.new.items)
-        response (table_values tables.now) (outcome_value end)) }
-    ensures err { OnErr result
-        ((destinations.new.items ≡ destinations.old.items)
-        ⊎ LeftInDestinations
-        (destinations_in_call T.is_known T.finished T.begun T.width T.faults destinations.old.items
-        destinations.new.items)
-        (table_values tables.now)) }
+        (destinations_in_call D.state destinations.old.items destinations.new.items)
+        (folder_in_call G.state own.old own.new) response (outcome_value end) (table_values tables.now)) }
+    ensures err { (response : ResponseValue) → response.tables ≡ Some (table_values tables.now)
+        → response.own ≡ option_map own_folder_value into.now
+        → OnErr result (LeavesPart
+        (destinations_in_call D.state destinations.old.items destinations.new.items)
+        (folder_in_call G.state own.old own.new) response) }
     ensures count { length destinations.new.items ≡ length destinations.old.items }
 {
-    let room = Vec::with_capacity(alloc, destinations.len().saturating_mul(LINE))?;
-    let ends = write_tables_to_list(alloc, destinations, tables)?;
-    let end = report(text, room, &ends)?;
-    Ok(end)
+    let most = destinations.len().saturating_add(2);
+    let room = Vec::with_capacity(alloc, most.saturating_mul(LINE))?;
+    let ends = write_tables(alloc, destinations, own, into, tables)?;
+    report(text, room, &ends)
+}
+
+// Writes these tables to the destinations, or to a folder of their own.
+fn write_tables<D: Folder, G: Folder>(
+    alloc: Global,
+    destinations: &mut Vec<Destination<D>>,
+    own: &mut G,
+    into: &Option<OwnFolder>,
+    tables: &ChosenTables,
+) -> Result<Vec<Result<(), OutsideFault>>, OutOfMemory>
+    ensures written { IfOk result (λ ends. Written
+        (destinations_in_call D.state destinations.old.items destinations.new.items)
+        (folder_in_call G.state own.old own.new) (option_map own_folder_value into.now)
+        (table_values tables.now) ends.items) }
+    ensures err { OnErr result (AllStays
+        (destinations_in_call D.state destinations.old.items destinations.new.items)
+        (folder_in_call G.state own.old own.new)) }
+    ensures ends { IfOk result (λ ends. length ends.items ≤ length destinations.old.items + 2) }
+    ensures count { length destinations.new.items ≡ length destinations.old.items }
+{
+    match into {
+        None => write_tables_to_list(alloc, destinations, tables),
+        Some(folder) => write_own_folder(alloc, own, &folder.name, &folder.script, tables),
+    }
 }
 
 // What is answered after destinations ended so. The text of a failure is written into the room.
-fn report(text: Vec<u8>, room: Vec<u8>, ends: &[WriteOutcome]) -> Result<Outcome, OutOfMemory>
+fn report(
+    text: Vec<u8>,
+    room: Vec<u8>,
+    ends: &[Result<(), OutsideFault>],
+) -> Result<Outcome, OutOfMemory>
     requires empty { room.items ≡ [] }
     requires has_room { length ends.now * LINE ≤ vec_capacity room }
     ensures memory { OnOk result (list_any is_out_of_memory ends.now ≡ false) }
@@ -145,32 +136,29 @@ fn report(text: Vec<u8>, room: Vec<u8>, ends: &[WriteOutcome]) -> Result<Outcome
     })
 }
 
-fn any_out_of_memory(ends: &[WriteOutcome]) -> bool
+fn any_out_of_memory(ends: &[Result<(), OutsideFault>]) -> bool
     ensures any_out_of_memory { result ≡ list_any is_out_of_memory ends.now }
 {
     ends.iter().any(|end| is_out_of_memory(*end))
 }
 
-fn all_are_done(ends: &[WriteOutcome]) -> bool
-    ensures all_done { result ≡ list_all is_done ends.now }
+fn all_are_done(ends: &[Result<(), OutsideFault>]) -> bool
+    ensures all_done { result ≡ list_all is_ok ends.now }
 {
-    ends.iter().all(|end| is_done(*end))
+    ends.iter().all(|end| end.is_ok())
 }
 
-fn is_out_of_memory(end: WriteOutcome) -> bool
+fn is_out_of_memory(end: Result<(), OutsideFault>) -> bool
     ensures is { result ≡ is_out_of_memory end }
 {
-    end == WriteOutcome::OutOfMemory
-}
-
-fn is_done(end: WriteOutcome) -> bool
-    ensures done { result ≡ is_done end }
-{
-    end == WriteOutcome::Done
+    match end {
+        Err(OutsideFault::OutOfMemory) => true,
+        Ok(()) | Err(OutsideFault::Failed) => false,
+    }
 }
 
 // A line for each destination that failed, counted from 1.
-fn failures(mut text: Vec<u8>, ends: &[WriteOutcome]) -> Vec<u8>
+fn failures(mut text: Vec<u8>, ends: &[Result<(), OutsideFault>]) -> Vec<u8>
     requires empty { text.items ≡ [] }
     requires has_room { length ends.now * LINE ≤ vec_capacity text }
     ensures lines { result.items ≡ failures_text 1 ends.now }
@@ -182,15 +170,15 @@ fn failures(mut text: Vec<u8>, ends: &[WriteOutcome]) -> Vec<u8>
 }
 
 // What is said of the destination of this number, at the end of a text with room for a line.
-fn put_end(text: &mut Vec<u8>, number: usize, end: WriteOutcome)
+fn put_end(text: &mut Vec<u8>, number: usize, end: Result<(), OutsideFault>)
     requires has_room { length text.old.items + LINE ≤ vec_capacity text.old }
     ensures added { text.new.items ≡ text.old.items ++ end_text number end }
     ensures at_most_a_line { length text.new.items ≤ length text.old.items + LINE }
     ensures keeps { vec_capacity text.old ≤ vec_capacity text.new }
 {
     match end {
-        WriteOutcome::Failed => put_failure(text, number),
-        WriteOutcome::Done | WriteOutcome::OutOfMemory => {}
+        Err(OutsideFault::Failed) => put_failure(text, number),
+        Ok(()) | Err(OutsideFault::OutOfMemory) => {}
     }
 }
 

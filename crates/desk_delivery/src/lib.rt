@@ -1,6 +1,6 @@
-//! What becomes of an answer: its tables go to the destinations.
+//! What becomes of an answer: its tables are written to the destinations.
 //!
-//! `deliver_tables` hands the tables of a response over.
+//! `deliver_tables` writes the tables of a response.
 //!
 //! Promises: what the call ends with, the response or the destinations that failed, and what the
 //! destinations have.

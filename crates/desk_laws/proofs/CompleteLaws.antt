@@ -15,8 +15,8 @@ use Rattle.desk_responses.specs.declared.status.Status.{Status}
 use Rattle.desk_responses.specs.ResponseValues.{ResponseValue, Allowed}
 use Rattle.desk_implication.specs.Certificates.{Checked}
 use Rattle.desk_covers.specs.Covering.{GivesCanonicalCover, GivesCover}
-use Rattle.desk_cli.specs.Desk.{Desk, FileSourceInCall, SinkInCall}
-use Rattle.desk_delivery.specs.Outcomes.{DestinationsInCall, OwnInCall}
+use Rattle.desk_cli.specs.Desk.{Desk, FileSourceInCall, SinkInCall, looks_in}
+use Rattle.desk_delivery.specs.Outcomes.{DestinationsInCall, FolderInCall}
 use Rattle.desk_words.specs.Forms.{form_of, after_check, after_cover, schema_and_two, no_more_arguments, form_over_schema, after_keys, after_synthesize, schema_and_word, schema_and_plan, schema_and_rows}
 use Rattle.desk_implication.specs.Implication.{Decided}
 use Rattle.desk_inputs.specs.FileKinds.{IsFile, WithFile}
@@ -38,12 +38,12 @@ use Rattle.desk_laws.proofs.StopLemmas.{With-goes}
 use Rattle.desk_tables.specs.OwnFolders.{Looks}
 
 -- ---- the call
-pub calls_end : (words : List (List ℕ)) (looks : Looks) (files : Files) (source : FileSourceInCall) (sink notices : SinkInCall)
-    (destinations : DestinationsInCall) (own : OwnInCall) (result : Result Status OutOfMemory)
-    → Desk words looks source sink notices destinations own result → FailsNowhere files source sink destinations own
-    → IsAnsweredBy looks files words → (status : Status) → result ≡ Ok status → IsYesOrNo status
-calls_end words looks files source sink notices destinations own result desk nowhere answered status is =
-    let delivers = desk.complete files nowhere.holds nowhere.reads nowhere.writes nowhere.writes_tables nowhere.writes_folder status is in
+pub calls_end : (words : List (List ℕ)) (files : Files) (source : FileSourceInCall) (sink notices : SinkInCall)
+    (destinations : DestinationsInCall) (own : FolderInCall) (result : Result Status OutOfMemory)
+    → Desk words source sink notices destinations own result → FailsNowhere files source sink destinations own
+    → IsAnsweredBy (looks_in own) files words → (status : Status) → result ≡ Ok status → IsYesOrNo status
+calls_end words files source sink notices destinations own result desk nowhere answered status is =
+    let delivers = desk.complete files nowhere.holds nowhere.reads nowhere.writes nowhere.writes_tables status is in
     subst IsYesOrNo (sym delivers.2) (answered delivers.0 delivers.1)
 
 -- ---- files

@@ -14,21 +14,21 @@ use Rattle.desk_inputs.specs.Inputs.{schema_file}
 use Rattle.desk_inputs.specs.Plans.{plan_file}
 use Rattle.desk_inputs.specs.Readings.{known_files}
 use Rattle.desk_reports.specs.Reports.{ReportsPlan, ReportsSchema}
-use Rattle.desk_cli.specs.Desk.{Desk, FileSourceInCall, SinkInCall}
+use Rattle.desk_cli.specs.Desk.{Desk, FileSourceInCall, SinkInCall, looks_in}
 use Rattle.desk_cli.specs.Performs.{Answers, Does, Performs}
-use Rattle.desk_delivery.specs.Outcomes.{DestinationsInCall, OwnInCall}
+use Rattle.desk_delivery.specs.Outcomes.{DestinationsInCall, FolderInCall}
 use Rattle.desk_tables.specs.OwnFolders.{Looks}
 use Rattle.desk_laws.specs.Completeness.{FailsNowhere, IsAnsweredYes}
 use Rattle.desk_laws.proofs.CompleteLaws.{after_plan, after_schema}
 
-pub yes_calls_end : (words : List (List ℕ)) (looks : Looks) (files : Files) (source : FileSourceInCall)
-    (sink notices : SinkInCall) (destinations : DestinationsInCall) (own : OwnInCall) (result : Result Status OutOfMemory)
-    → Desk words looks source sink notices destinations own result → FailsNowhere files source sink destinations own
+pub yes_calls_end : (words : List (List ℕ)) (files : Files) (source : FileSourceInCall)
+    (sink notices : SinkInCall) (destinations : DestinationsInCall) (own : FolderInCall) (result : Result Status OutOfMemory)
+    → Desk words source sink notices destinations own result → FailsNowhere files source sink destinations own
     → IsAnsweredYes files words → (status : Status) → result ≡ Ok status → status ≡ Yes
-yes_calls_end words looks files source sink notices destinations own result desk nowhere answered status is =
-    let delivers = desk.complete files nowhere.holds nowhere.reads nowhere.writes nowhere.writes_tables nowhere.writes_folder
+yes_calls_end words files source sink notices destinations own result desk nowhere answered status is =
+    let delivers = desk.complete files nowhere.holds nowhere.reads nowhere.writes nowhere.writes_tables
     status is in
-    delivers.2 ∙ answered looks delivers.0 delivers.1
+    delivers.2 ∙ answered (looks_in own) delivers.0 delivers.1
 
 -- a page is an answer of yes
 pub page_says_yes : (file : List ℕ) (s : Schema) (response : ResponseValue) → ReportsSchema file s response

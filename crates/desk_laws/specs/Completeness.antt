@@ -17,7 +17,7 @@ use Rattle.desk_tables.specs.Overwriting.{IsTableFile}
 use Rattle.desk_tables.specs.OwnFolders.{Looks}
 use Rattle.table_names.specs.TableNames.{GivenNames}
 use Rattle.desk_cli.specs.Desk.{FileSourceInCall, SinkInCall}
-use Rattle.desk_delivery.specs.Outcomes.{DestinationsInCall, NoneFails, OwnInCall, OwnIsFine}
+use Rattle.desk_delivery.specs.Outcomes.{DestinationsInCall, FolderInCall, NoneFails}
 use Rattle.desk_cli.specs.Performs.{Answers}
 use Rattle.desk_inputs.specs.Readings.{known_files}
 
@@ -42,12 +42,11 @@ IsAnsweredYes files words =
 
 -- it is known that the file source holds these files, and no error count increased
 pub record FailsNowhere (files : Files) (source : FileSourceInCall) (sink : SinkInCall)
-    (destinations : DestinationsInCall) (own : OwnInCall) : Type 0 where
+    (destinations : DestinationsInCall) (own : FolderInCall) : Type 0 where
   pub holds : source.files ≡ Some files
   pub reads : ErrorCountIncreased source.before source.after → ⊥
   pub writes : ErrorCountIncreased sink.before sink.after → ⊥
-  pub writes_tables : NoneFails destinations
-  pub writes_folder : OwnIsFine own
+  pub writes_tables : NoneFails destinations own
 
 -- splitting a schema comes to no scheme that is too wide, and to no more schemes than are allowed
 pub record IsSplittable (schema : Schema) (form : Form) : Type 0 where

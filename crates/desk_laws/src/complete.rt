@@ -5,37 +5,33 @@
 ghost use Rattle.std.specs.Prelude.{◌≡◌, ℕ, List, Result, Ok};
 ghost use Rattle.dep_model.specs.declared.memory.OutOfMemory.{OutOfMemory};
 ghost use Rattle.desk_outside.specs.Files.{Files};
+ghost use Rattle.desk_outside.specs.FreeNames.{may_be_free};
 ghost use Rattle.desk_responses.specs.declared.status.Status.{Status};
 ghost use Rattle.desk_cli.specs.Desk.{Desk, SinkInCall, source_in_call};
-ghost use Rattle.desk_delivery.specs.Outcomes.{destinations_in_call, own_in_call};
-ghost use Rattle.own_folder.specs.OwnWriting.{folder_in_call, place_in_call};
-ghost use Rattle.desk_tables.specs.OwnFolders.{Looks};
+ghost use Rattle.desk_delivery.specs.Outcomes.{destinations_in_call, folder_in_call};
+ghost use Rattle.destinations.specs.declared.destination.Destination.{Destination};
 ghost use Rattle.desk_laws.specs.Completeness.{IsYesOrNo, IsAnsweredBy, FailsNowhere};
 ghost use Rattle.desk_laws.specs.AnsweredCalls.{ImpliesIsAnswered, CheckProofIsAnswered, CheckRowsIsAnswered, CheckJoinIsAnswered, CoverIsAnswered, CoverCanonicalIsAnswered, KeysIsAnswered, SynthesizeIsAnswered, HelpIsAnsweredHelp, HelpIsAnsweredLong, HelpIsAnsweredDashH, HelpIsAnsweredVersion};
 
 use desk_outside::{FileSource, Folder};
-use destinations::Destination;
-use own_folder::FolderMaker;
 
 /// Where nothing fails, a call whose words are answered over the files ends with yes or no, or runs
 /// out of memory.
-pub fn answered_calls_end<F: FileSource, T: Destination, M: FolderMaker, G: Folder>()
-    ensures law { (words : List (List ℕ)) (looks : Looks) (files : Files) (source after : F)
+pub fn answered_calls_end<F: FileSource, D: Folder, G: Folder>()
+    ensures law { (words : List (List ℕ)) (files : Files) (source after : F)
         (sink notices : SinkInCall)
-        (old new : List T) (place made : M) (folder filled : G) (result : Result Status OutOfMemory)
-        → Desk words looks
+        (old new : List (Destination D)) (folder filled : G) (result : Result Status OutOfMemory)
+        → Desk words
         (source_in_call (F.files source) (F.files after) (F.faults source) (F.faults after) (F.taken after)
         (F.begun source) (F.begun after))
-        sink notices (destinations_in_call T.is_known T.finished T.begun T.width T.faults old new)
-        (own_in_call (place_in_call M.made M.faults place made)
-        (folder_in_call G.contents G.begun G.faults folder filled)) result
+        sink notices (destinations_in_call D.state old new)
+        (folder_in_call G.state folder filled) result
         → FailsNowhere files
         (source_in_call (F.files source) (F.files after) (F.faults source) (F.faults after) (F.taken after)
         (F.begun source) (F.begun after))
-        sink (destinations_in_call T.is_known T.finished T.begun T.width T.faults old new)
-        (own_in_call (place_in_call M.made M.faults place made)
-        (folder_in_call G.contents G.begun G.faults folder filled))
-        → IsAnsweredBy looks files words
+        sink (destinations_in_call D.state old new)
+        (folder_in_call G.state folder filled)
+        → IsAnsweredBy (may_be_free (G.state folder).contents) files words
         → (status : Status) → result ≡ Ok status → IsYesOrNo status }
 {}
 

@@ -4,3 +4,4 @@ pub mod FolderFacts
 pub mod SeriesFacts
 pub mod PlannedFacts
 pub mod LoadFacts
+pub mod FreeFacts

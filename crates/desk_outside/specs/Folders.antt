@@ -1,12 +1,28 @@
--- What a folder holds, and what its calls make of it: for folders and the destinations over one.
--- `Desk` does not cite it.
-use Rattle.std.specs.Prelude.{◌≡◌, ◌⊎◌, ℕ, List, [], ◌∷◌, ◌++◌, Option, Some, None, option_map, option_to_list, Result, OnOk, OnErr}
+-- What a folder is in, what it holds, and what its calls make of that: for folders and for what is written through
+-- them. `Desk` cites `FolderState`.
+use Rattle.std.specs.Prelude.{◌≡◌, ◌⊎◌, ℕ, Bool, List, [], ◌∷◌, ◌++◌, codes, Option, Some, None, option_map, option_to_list, Result, OnOk, OnErr}
 use Rattle.desk_outside.specs.Files.{Files, StoredFile, without_file}
 
 -- the finished files in the order of their ending, and the open one
 pub record FolderContents : Type 0 where
   pub finished : Files
   pub opened : Option StoredFile
+
+-- what a folder is in: what it holds, where known; whether a file is open; the names begun, in order, of files and of
+-- folders, by their paths; and its error count, which never falls
+pub record FolderState : Type 0 where
+  pub contents : Option FolderContents
+  pub is_open : Bool
+  pub begun : List (List ℕ)
+  pub faults : ℕ
+
+-- the finished files, where known, whatever is open
+abbrev pub finished_in : Option FolderContents → Option Files
+finished_in known = option_map (λ folder. folder.finished) known
+
+-- the path of a folder of this name: what that of each file in it begins with
+abbrev pub folder_path : List ℕ → List ℕ
+folder_path name = name ++ codes "/"
 
 -- an empty file of this name is open, in place of a finished one
 abbrev pub with_begun : List ℕ → FolderContents → FolderContents

@@ -1,9 +1,9 @@
 -- The objects in memory, as contracts see them: for those that tests use. `Desk` does not cite it.
-use Rattle.std.specs.Prelude.{ℕ, ◌-◌, ◌<◌, ◌≤◌, List, [], length, Option, Some, None, slice_get}
+use Rattle.std.specs.Prelude.{ℕ, ◌-◌, ◌<◌, ◌≤◌, List, [], length, Option, Some, None, is_some, slice_get}
 use Rattle.std.specs.Option.{option_map_or}
 use Rattle.desk_outside.specs.declared.held_file.HeldFile.{HeldFile}
 use Rattle.desk_outside.specs.Files.{Files, StoredFile}
-use Rattle.desk_outside.specs.Folders.{FolderContents}
+use Rattle.desk_outside.specs.Folders.{FolderState}
 use Rattle.desk_outside.specs.Planned.{FaultPlan, new_plan}
 
 -- a file source: its files, what is left of the begun one, how many bytes were taken since it was
@@ -55,10 +55,16 @@ pub record FolderInMemory : Type 0 where
   pub begun : List (List ℕ)
   pub planned : FaultPlan
 
--- no file is finished, open or begun, and no call was made
-abbrev pub new_folder : List ℕ → FolderInMemory
-new_folder fails = record { finished = []; opened = None; begun = []; planned = new_plan fails }
+-- these files are finished, none is open or begun, and no call was made
+abbrev pub new_folder : Files → List ℕ → FolderInMemory
+new_folder files fails = record { finished = files; opened = None; begun = []; planned = new_plan fails }
 
--- its files
-abbrev pub contents_of : FolderInMemory → FolderContents
-contents_of folder = record { finished = folder.finished; opened = folder.opened }
+-- what it is in
+abbrev pub state_of : FolderInMemory → FolderState
+state_of folder =
+    record {
+      contents = Some (record { finished = folder.finished; opened = folder.opened });
+      is_open = is_some folder.opened;
+      begun = folder.begun;
+      faults = folder.planned.faults;
+    }

@@ -3,7 +3,9 @@ ghost use Rattle.std.specs.IoError.{error_kind};
 
 use crate::failure::OutsideFault;
 use crate::folder::Folder;
+use crate::free_name::folder_path;
 use crate::held_file::HeldFile;
+use crate::made_folder::{is_free_path, is_made};
 use crate::progress::ProgressLine;
 use arguments::Argument;
 use std::alloc::Global;
@@ -14,11 +16,11 @@ use std::rt::{Clock, Files};
 
 /// The system's current folder.
 ///
-/// Of what it holds only the names begun are known. A name that is not UTF-8, a write that takes
-/// nothing and any error of the system are faults, and all are counted. A file of a name that is there
-/// is emptied. What ends is flushed first, unless it is of a kind that cannot be.
+/// Of what it holds only the names begun are known: what a look at a name finds is known to nobody. A name that is not
+/// UTF-8, a write that takes nothing and any error of the system are faults, and all are counted. A file of a name that
+/// is there is emptied. What ends is flushed first, unless it is of a kind that cannot be.
 #[derive(Drop)]
-pub struct FileFolder<R: Files + Clock + Eprint + Drop> {
+pub struct FileFolder<R: Files + Alloc + Clock + Eprint + Clone + Drop> {
     alloc: Global,
     rt: R,
     begun: Vec<Argument>,
@@ -28,12 +30,12 @@ pub struct FileFolder<R: Files + Clock + Eprint + Drop> {
     progress: ProgressLine,
 }
 
-impl<R: Files + Clock + Eprint + Drop> FileFolder<R> {
+impl<R: Files + Alloc + Clock + Eprint + Clone + Drop> FileFolder<R> {
     /// The folder that the runtime reaches. No file is open or begun, and no fault is counted.
     pub fn new(alloc: Global, rt: R) -> FileFolder<R>
-        ensures is_open { ⟦<FileFolder<R> as Folder>⟧.is_open result ≡ false }
-        ensures begun { ⟦<FileFolder<R> as Folder>⟧.begun result ≡ [] }
-        ensures faults { ⟦<FileFolder<R> as Folder>⟧.faults result ≡ 0 }
+        ensures is_open { (⟦<FileFolder<R> as Folder>⟧.state result).is_open ≡ false }
+        ensures begun { (⟦<FileFolder<R> as Folder>⟧.state result).begun ≡ [] }
+        ensures faults { (⟦<FileFolder<R> as Folder>⟧.state result).faults ≡ 0 }
     {
         let progress = ProgressLine::new(alloc, &rt);
         FileFolder {
@@ -48,7 +50,7 @@ impl<R: Files + Clock + Eprint + Drop> FileFolder<R> {
     }
 }
 
-impl<R: Files + Clock + Eprint + Drop> FileFolder<R> {
+impl<R: Files + Alloc + Clock + Eprint + Clone + Drop> FileFolder<R> {
     // Tells what is written.
     fn tell(&mut self, count: usize)
         ensures opened { self.new.opened ≡ self.old.opened }
@@ -105,14 +107,13 @@ fn flush_opened<T: OpenFile>(opened: &Option<T>) -> io::Result<()> {
     }
 }
 
-impl<R: Files + Clock + Eprint + Drop> Folder for FileFolder<R> {
-    ghost contents = { λ _. None };
-
-    ghost is_open = { λ folder. is_some folder.opened };
-
-    ghost begun = { λ folder. folder.begun.items };
-
-    ghost faults = { λ folder. folder.faults };
+impl<R: Files + Alloc + Clock + Eprint + Clone + Drop> Folder for FileFolder<R> {
+    ghost state = { λ folder. record {
+      contents = None;
+      is_open = is_some folder.opened;
+      begun = folder.begun.items;
+      faults = folder.faults;
+    } };
 
     fn begin(&mut self, name: &[u8]) -> Result<(), OutsideFault> {
         self.opened = None;
@@ -146,6 +147,29 @@ impl<R: Files + Clock + Eprint + Drop> Folder for FileFolder<R> {
         let flushed = is_flushed(&flush_opened(&self.opened));
         self.opened = None;
         if flushed {
+            return Ok(());
+        }
+        self.faults = self.faults.saturating_add(1);
+        Err(OutsideFault::Failed)
+    }
+
+    fn give_up(&mut self) {
+        self.opened = None;
+    }
+
+    fn is_free(&self, name: &[u8]) -> bool {
+        match str::from_utf8(name) {
+            Ok(path) => is_free_path(&self.rt, path),
+            Err(_) => false,
+        }
+    }
+
+    fn make_folder(&mut self, name: &[u8]) -> Result<(), OutsideFault> {
+        let path = folder_path(self.alloc, name)?;
+        if self.begun.push(Argument::new(self.alloc, &path)?).is_err() {
+            return Err(OutsideFault::OutOfMemory);
+        }
+        if is_made(&self.rt, name) {
             return Ok(());
         }
         self.faults = self.faults.saturating_add(1);

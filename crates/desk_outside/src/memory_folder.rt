@@ -3,12 +3,14 @@ ghost use Rattle.desk_outside.specs.declared.failure.OutsideFault.{OutsideFault}
 ghost use Rattle.desk_outside.specs.declared.failure.OutsideFault.TheVariants.{Failed};
 ghost use Rattle.desk_outside.specs.Causes.{HasOutsideCause, is_failed};
 ghost use Rattle.desk_outside.specs.Files.{files_of, without_file};
-ghost use Rattle.desk_outside.specs.Folders.{more_bytes, BeginsName};
-ghost use Rattle.desk_outside.specs.Memory.{new_folder, contents_of};
+ghost use Rattle.desk_outside.specs.Folders.{folder_path, more_bytes, BeginsName};
+ghost use Rattle.desk_outside.specs.FreeNames.{is_free_among};
+ghost use Rattle.desk_outside.specs.Memory.{new_folder, state_of};
 ghost use Rattle.desk_outside.specs.Planned.{FailsNext, CountsCall};
 
 use crate::failure::OutsideFault;
 use crate::folder::Folder;
+use crate::free_name::{any_taken, folder_path};
 use crate::held_file::HeldFile;
 use crate::memory_series::MemorySeries;
 use arguments::Argument;
@@ -41,11 +43,20 @@ impl Model for MemoryFolder {
 impl MemoryFolder {
     /// An empty folder. The calls with these numbers, from 1, fail.
     pub fn new(alloc: Global, fails: Vec<u64>) -> MemoryFolder
-        ensures begins { result ≡ new_folder fails.items }
+        ensures begins { result ≡ new_folder [] fails.items }
     {
+        MemoryFolder::with_files(alloc, Vec::new(alloc), fails)
+    }
+
+    /// A folder with these files. The calls with these numbers, from 1, fail.
+    pub fn with_files(alloc: Global, files: Vec<HeldFile>, fails: Vec<u64>) -> MemoryFolder
+        ensures begins { result ≡ new_folder (files_of files.items) fails.items }
+    {
+        let mut series = MemorySeries::new(alloc, fails);
+        series.finished = files;
         MemoryFolder {
             alloc,
-            files: MemorySeries::new(alloc, fails),
+            files: series,
             begun: Vec::new(alloc),
         }
     }
@@ -65,15 +76,9 @@ fn remove_named(files: &mut Vec<HeldFile>, name: &[u8])
     files.retain(|file| file.name.bytes() != name);
 }
 
-#[tactic(auto, using(crate::proofs::SeriesFacts::mapped_end))]
+#[tactic(auto, using(crate::proofs::SeriesFacts::mapped_end, crate::proofs::FreeFacts::any_mapped, crate::proofs::FreeFacts::true_answer))]
 impl Folder for MemoryFolder {
-    ghost contents = { λ folder. Some (contents_of folder) };
-
-    ghost is_open = { λ folder. is_some folder.opened };
-
-    ghost begun = { λ folder. folder.begun };
-
-    ghost faults = { λ folder. folder.planned.faults };
+    ghost state = { λ folder. state_of folder };
 
     fn begin(&mut self, name: &[u8]) -> Result<(), OutsideFault>
         ensures replaced { OnOk result (self.new.finished ≡ without_file name.now self.old.finished) }
@@ -133,6 +138,41 @@ impl Folder for MemoryFolder {
         ensures cause { HasOutsideCause self.old.planned.faults self.new.planned.faults result }
     {
         self.files.end()
+    }
+
+    fn give_up(&mut self)
+        ensures finished { self.new.finished ≡ self.old.finished }
+        ensures closed { self.new.opened ≡ None }
+        ensures same { self.new.begun ≡ self.old.begun }
+        ensures planned { self.new.planned ≡ self.old.planned }
+    {
+        self.files.opened = None;
+    }
+
+    fn is_free(&self, name: &[u8]) -> bool
+        ensures free { result ≡ is_free_among name.now self.now.finished }
+    {
+        !any_taken(&self.files.finished, name)
+    }
+
+    fn make_folder(&mut self, name: &[u8]) -> Result<(), OutsideFault>
+        ensures finished { self.new.finished ≡ self.old.finished }
+        ensures opened { self.new.opened ≡ self.old.opened }
+        ensures begins { BeginsName (folder_path name.now) self.old.begun self.new.begun result }
+        ensures failed { IsErrOf result OutsideFault.Failed ↔ FailsNext self.old.planned }
+        ensures counts { CountsCall self.old.planned self.new.planned (is_failed result) }
+        ensures cause { HasOutsideCause self.old.planned.faults self.new.planned.faults result }
+    {
+        if self.files.planned.next_fails() {
+            self.files.planned.count_fault();
+            return Err(OutsideFault::Failed);
+        }
+        let path = folder_path(self.alloc, name)?;
+        let held = Argument::new(self.alloc, &path)?;
+        match self.begun.push(held) {
+            Ok(()) => Ok(()),
+            Err(_) => Err(OutsideFault::OutOfMemory),
+        }
     }
 
     fn visible(&self) -> Option<&[HeldFile]>

@@ -92,14 +92,14 @@ pub fn send<K: Sink>(sink: &mut K, bytes: &[u8]) -> Result<(), CannotWrite>
 
 /// Writes all bytes, in order, to the open file of a folder.
 pub fn write_all<G: Folder>(folder: &mut G, bytes: &[u8]) -> Result<(), OutsideFault>
-    requires is_open { IsTrue (G.is_open folder.old) }
-    ensures ok { OnOk result (G.contents folder.new
-        ≡ option_map (with_bytes bytes.now) (G.contents folder.old)) }
-    ensures closed { OnErr result (G.contents folder.new
-        ≡ option_map with_none_open (G.contents folder.old)) }
-    ensures is_open { G.is_open folder.new ≡ is_ok result }
-    ensures same { G.begun folder.new ≡ G.begun folder.old }
-    ensures cause { HasOutsideCause (G.faults folder.old) (G.faults folder.new) result }
+    requires is_open { IsTrue (G.state folder.old).is_open }
+    ensures ok { OnOk result ((G.state folder.new).contents
+        ≡ option_map (with_bytes bytes.now) (G.state folder.old).contents) }
+    ensures closed { OnErr result ((G.state folder.new).contents
+        ≡ option_map with_none_open (G.state folder.old).contents) }
+    ensures is_open { (G.state folder.new).is_open ≡ is_ok result }
+    ensures same { (G.state folder.new).begun ≡ (G.state folder.old).begun }
+    ensures cause { HasOutsideCause (G.state folder.old).faults (G.state folder.new).faults result }
 {
     let mut written = 0;
     while written < bytes.len() {

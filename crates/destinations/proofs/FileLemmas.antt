@@ -1,112 +1,193 @@
--- What the calls of a folder do to the tables that its files stand for.
-use Rattle.std.proofs.Common.{◌≡◌, ◌⊎◌, inl, inr, ℕ, Bool, true, false, not, List, [], ◌∷◌, ◌++◌, map, Option, None, Some, option_map, option_to_list, refl, sym, ap, ap₂, ◌∙◌, append-nil}
-use Rattle.std.specs.Prelude.{IfSome}
-use Rattle.std.specs.Str.{bytes_eq}
-use Rattle.std.proofs.lemmas.Bool.{false_from_ne_true, true≢false}
-use Rattle.std.proofs.lemmas.List.{map-append, append_cancel_right, flat_map_more}
-use Rattle.std.proofs.lemmas.List.Elements.{filter_agree}
-use Rattle.std.proofs.lemmas.Slice.Eq.{bytes_eq-Decides}
-use Rattle.dep_model.specs.Tuples.{Tuple}
-use Rattle.desk_outside.specs.Files.{StoredFile, without_file}
-use Rattle.desk_outside.specs.Folders.{FolderContents, with_begun, with_bytes, more_bytes, with_ended, with_none_open}
-use Rattle.desk_outside.proofs.FolderFacts.{map-filter}
-use Rattle.named_tables.specs.Tables.{TableValue, empty_table, with_row}
-use Rattle.destinations.specs.Destinations.{without_table}
-use Rattle.destinations.specs.FileTables.{FilesAre, FilesBegun, OpenIs}
-use Rattle.destinations.specs.Formats.{ending, opening, line_front, row_line, table_text, table_file}
+-- Files that are written one after the other.
+use Rattle.std.proofs.Common.{◌≡◌, ◌⊎◌, inl, inr, ℕ, ◌+◌, ◌<◌, arith, false, List, [], ◌∷◌, ◌++◌, length, take, drop, get_or, Option, None, Some, option_map, refl, sym, ap, subst, ◌∙◌, append-nil, append_assoc}
+use Rattle.std.specs.Prelude.{Result, Ok, Err, OnOk, OnErr}
+use Rattle.std.proofs.lemmas.List.{drop_more, map-append, take-append-drop, take_more}
+use Rattle.dep_model.specs.Tuples.{Relation}
+use Rattle.desk_outside.specs.Causes.{HasOutsideCause}
+use Rattle.desk_outside.specs.declared.failure.OutsideFault.{OutsideFault}
+use Rattle.desk_outside.specs.declared.failure.OutsideFault.TheVariants.{OutOfMemory}
+use Rattle.desk_outside.specs.Files.{Files, StoredFile, without_file}
+use Rattle.desk_outside.specs.Folders.{BeginsName, FolderContents, FolderState, finished_in, with_begun, with_bytes, with_ended, with_none_open}
+use Rattle.named_tables.specs.Tables.{chosen_value, chosen_values}
+use Rattle.named_tables.specs.declared.table.ChosenTable.{ChosenTable}
+use Rattle.destinations.specs.Formats.{table_file, table_files}
+use Rattle.destinations.specs.Writing.{AddsBytes, AllWritten, FilesWritten, WriteEnd, WritesFile, names_of_files, with_all_stored, with_stored}
 use Rattle.destinations.specs.declared.format.TableFormat.{TableFormat}
+use Rattle.destinations.proofs.AddingLemmas.{cause_from, finished_closed, memory_cause}
+use Rattle.destinations.proofs.BufferLemmas.{finished_gathered}
 
--- ---- finished files
--- a folder without finished files, whatever is gathered
-pub files_are_none : (file : TableValue → StoredFile) (known : Option FolderContents) (gathered : List ℕ) → IfSome known (λ folder. folder.finished ≡ []) → FilesAre file (option_map (with_bytes gathered) known) []
-files_are_none file None gathered none = none
-files_are_none file (Some folder) gathered none = none
+-- ---- one file
+finished_begun : (known : Option FolderContents) (name : List ℕ) → finished_in (option_map (with_begun name) known) ≡ option_map (without_file name) (finished_in known)
+finished_begun None name = refl
+finished_begun (Some folder) name = refl
 
--- the same ending does not make names equal or different
-bytes_eq-append : (xs ys end : List ℕ) → bytes_eq (xs ++ end) (ys ++ end) ≡ bytes_eq xs ys
-bytes_eq-append xs ys end = at (bytes_eq xs ys) refl
+finished_ended : (known : Option FolderContents) (name bytes : List ℕ) → finished_in (option_map with_ended (option_map (with_bytes bytes) (option_map (with_begun name) known))) ≡ option_map (with_stored (record { name = name; bytes = bytes })) (finished_in known)
+finished_ended None name bytes = refl
+finished_ended (Some folder) name bytes = refl
+
+begins_as : (name : List ℕ) (old new : List (List ℕ)) (end : WriteEnd) → new ≡ old ++ name ∷ [] → BeginsName name old new end
+begins_as name old new (Ok u) is = record { ok = is; err = tt }
+begins_as name old new (Err e) is = record { ok = tt; err = inr is }
+
+-- what was begun, and what stood there before
+pub record Begins (name : List ℕ) (old new : FolderState) : Type 0 where
+  pub contents : new.contents ≡ option_map (with_begun name) old.contents
+  pub begun : new.begun ≡ old.begun ++ name ∷ []
+  pub fine : new.faults ≡ old.faults
+
+-- a file that is begun, written and ended, or not
+pub file_ended : (file : StoredFile) (start begun written new : FolderState) (u : Unit {0}) (end : WriteEnd) → Begins file.name start begun
+    → AddsBytes file.bytes begun written (Ok u) → OnOk end (new.contents ≡ option_map with_ended written.contents)
+    → OnErr end (new.contents ≡ option_map with_none_open written.contents) → new.is_open ≡ false → new.begun ≡ written.begun
+    → HasOutsideCause written.faults new.faults end → WritesFile file start new end
+file_ended file start begun written new u (Ok v) begins adds ended gone closed same cause = record {
+  ok = ap finished_in (ended ∙ ap (option_map with_ended) (adds.ok ∙ ap (option_map (with_bytes file.bytes)) begins.contents))
+      ∙ finished_ended start.contents file.name file.bytes;
+  err = tt;
+  begins = begins_as file.name start.begun new.begun (Ok v) (same ∙ adds.same ∙ begins.begun);
+  closed = λ before. closed;
+  cause = cause_from start.faults written.faults new.faults (Ok v) (adds.cause.fine ∙ begins.fine) cause;
+}
+file_ended file start begun written new u (Err e) begins adds ended gone closed same cause = record {
+  ok = tt;
+  err = inr
+      (ap finished_in gone ∙ finished_closed written.contents ∙ ap finished_in adds.ok ∙ finished_gathered begun.contents file.bytes
+      ∙ ap finished_in begins.contents ∙ finished_begun start.contents file.name);
+  begins = begins_as file.name start.begun new.begun (Err e) (same ∙ adds.same ∙ begins.begun);
+  closed = λ before. closed;
+  cause = cause_from start.faults written.faults new.faults (Err e) (adds.cause.fine ∙ begins.fine) cause;
+}
+
+-- a file that is begun and given up
+pub file_given_up : (file : StoredFile) (start begun written new : FolderState) (e : OutsideFault) → Begins file.name start begun
+    → AddsBytes file.bytes begun written (Err e) → new.contents ≡ option_map with_none_open written.contents → new.is_open ≡ false
+    → new.begun ≡ written.begun → new.faults ≡ written.faults → WritesFile file start new (Err e)
+file_given_up file start begun written new e begins adds gone closed same fine = record {
+  ok = tt;
+  err = inr
+      (ap finished_in gone ∙ finished_closed written.contents ∙ adds.kept ∙ ap finished_in begins.contents
+      ∙ finished_begun start.contents file.name);
+  begins = begins_as file.name start.begun new.begun (Err e) (same ∙ adds.same ∙ begins.begun);
+  closed = λ before. closed;
+  cause = cause_from start.faults begun.faults new.faults (Err e) begins.fine
+      (subst (λ (n : ℕ). HasOutsideCause {T = Unit {0}} begun.faults n (Err e)) (sym fine) adds.cause);
+}
+
+-- a file that could not be begun
+pub file_not_begun : (file : StoredFile) (start new : FolderState) (e : OutsideFault) → new.contents ≡ option_map with_none_open start.contents
+    → new.is_open ≡ false → BeginsName {T = Unit {0}} file.name start.begun new.begun (Err e)
+    → HasOutsideCause {T = Unit {0}} start.faults new.faults (Err e) → WritesFile file start new (Err e)
+file_not_begun file start new e gone closed begins cause = record {
+  ok = tt;
+  err = inl (ap finished_in gone ∙ finished_closed start.contents);
+  begins = begins;
+  closed = λ before. closed;
+  cause = cause;
+}
+
+-- a file before which memory ran out
+pub file_not_tried : (file : StoredFile) (state : FolderState) → WritesFile file state state (Err OutOfMemory)
+file_not_tried file state = record {
+  ok = tt;
+  err = inl refl;
+  begins = record { ok = tt; err = inl refl };
+  closed = λ before. before;
+  cause = memory_cause state.faults;
+}
+
+-- ---- files
+pub files_none : (start : FolderState) → FilesWritten [] start start (Ok tt)
+files_none start = record {
+  ok = record { finished = none (finished_in start.contents); begun = sym (append-nil start.begun); closed = λ before. before };
+  err = tt;
+  cause = record { later = omega arith; fine = refl; failed = λ e. absurd cc };
+}
   where
-    at : (b : Bool) → bytes_eq xs ys ≡ b → bytes_eq (xs ++ end) (ys ++ end) ≡ bytes_eq xs ys
-    at true is =
-        (bytes_eq-Decides (xs ++ end) (ys ++ end)).1
-        (ap (λ (front : List ℕ). front ++ end) ((bytes_eq-Decides xs ys).0 is))
-        ∙ sym is
-    at false is =
-        false_from_ne_true (bytes_eq (xs ++ end) (ys ++ end))
-        (λ same.
-        true≢false
-        (sym ((bytes_eq-Decides xs ys).1 (append_cancel_right xs ys end ((bytes_eq-Decides (xs ++ end) (ys ++ end)).0 same)))
-        ∙ is))
-        ∙ sym is
+    none : (known : Option Files) → known ≡ option_map (with_all_stored []) known
+    none None = refl
+    none (Some files) = refl
 
--- the file of a table of this name is replaced
-pub gives_up_begun : (format : TableFormat) (known : Option FolderContents) (done : List TableValue) (name : List ℕ) → FilesAre (table_file format) known done → FilesAre (table_file format) (option_map (with_begun (name ++ ending format)) known) (without_table name done)
-gives_up_begun format None done name are = are
-gives_up_begun format (Some folder) done name are =
-    let file_name = name ++ ending format in
-    ap (without_file file_name) are
-    ∙ sym (map-filter (table_file format) (λ (file : StoredFile). not (bytes_eq file.name file_name)) done)
-    ∙ ap (map (table_file format))
-    (filter_agree (λ (table : TableValue). not (bytes_eq (table.name ++ ending format) file_name)) (λ (table : TableValue). not (bytes_eq table.name name))
-    (λ table. ap not (bytes_eq-append table.name name (ending format))) done)
+-- a file after others
+stored_last : (front : List StoredFile) (file : StoredFile) (files : Files) → with_stored file (with_all_stored front files) ≡ with_all_stored (front ++ file ∷ []) files
+stored_last [] file files = refl
+stored_last (one ∷ front) file files = stored_last front file (with_stored one files)
 
-pub keeps_bytes : (file : TableValue → StoredFile) (known : Option FolderContents) (done : List TableValue) (bytes : List ℕ) → FilesAre file known done → FilesAre file (option_map (with_bytes bytes) known) done
-keeps_bytes file None done bytes are = are
-keeps_bytes file (Some folder) done bytes are = are
+joined : (front : List StoredFile) (file : StoredFile) (known : Option Files) → option_map (with_stored file) (option_map (with_all_stored front) known) ≡ option_map (with_all_stored (front ++ file ∷ [])) known
+joined front file None = refl
+joined front file (Some files) = ap Some (stored_last front file files)
 
-pub keeps_closed : (file : TableValue → StoredFile) (known : Option FolderContents) (done : List TableValue) → FilesAre file known done → FilesAre file (option_map with_none_open known) done
-keeps_closed file None done are = are
-keeps_closed file (Some folder) done are = are
+-- the files of one list and then one more
+pub all_and_one : (front : List StoredFile) (file : StoredFile) (start before after : FolderState) → AllWritten front start before
+    → WritesFile file before after (Ok tt) → AllWritten (front ++ file ∷ []) start after
+all_and_one front file start before after written writes = record {
+  finished = writes.ok ∙ ap (option_map (with_stored file)) written.finished ∙ joined front file (finished_in start.contents);
+  begun = writes.begins.ok ∙ ap (λ (names : List (List ℕ)). names ++ file.name ∷ []) written.begun
+      ∙ append_assoc start.begun (names_of_files front) (file.name ∷ [])
+      ∙ ap (λ (names : List (List ℕ)). start.begun ++ names) (sym (map-append (λ (f : StoredFile). f.name) front (file ∷ [])));
+  closed = λ none. writes.closed (written.closed none);
+}
 
-map_more : (file : TableValue → StoredFile) (done : List TableValue) (table : TableValue) → map file done ++ file table ∷ [] ≡ map file (done ++ table ∷ [])
-map_more file [] table = refl
-map_more file (one ∷ done) table = ap (λ (rest : List StoredFile). file one ∷ rest) (map_more file done table)
+pub files_next : (front : List StoredFile) (file : StoredFile) (start before after : FolderState) → FilesWritten front start before (Ok tt)
+    → WritesFile file before after (Ok tt) → FilesWritten (front ++ file ∷ []) start after (Ok tt)
+files_next front file start before after so_far writes = record {
+  ok = all_and_one front file start before after so_far.ok writes;
+  err = tt;
+  cause = cause_from start.faults before.faults after.faults (Ok tt) so_far.cause.fine writes.cause;
+}
 
-pub files_are_finished : (file : TableValue → StoredFile) (known : Option FolderContents) (done : List TableValue) (table : TableValue) → FilesAre file known done → OpenIs file known table → FilesAre file (option_map with_ended known) (done ++ table ∷ [])
-files_are_finished file None done table are is = are
-files_are_finished file (Some folder) done table are is =
-    ap (λ (finished : List StoredFile). finished ++ option_to_list folder.opened) are
-    ∙ ap (λ (opened : Option StoredFile). map file done ++ option_to_list opened) is
-    ∙ map_more file done table
+-- the writing stops at a file, after those that are written
+pub files_stop : (files front rest : List StoredFile) (file : StoredFile) (start before after : FolderState) (e : OutsideFault)
+    → files ≡ front ++ file ∷ rest → FilesWritten front start before (Ok tt) → WritesFile file before after (Err e)
+    → FilesWritten files start after (Err e)
+files_stop files front rest file start before after e split so_far writes = record {
+  ok = tt;
+  err = record {
+    front = front;
+    file = file;
+    rest = rest;
+    split = split;
+    finished = at_finished writes.err;
+    begun = at_begun writes.begins.err;
+    closed = λ none. writes.closed (so_far.ok.closed none);
+  };
+  cause = cause_from start.faults before.faults after.faults (Err e) so_far.cause.fine writes.cause;
+}
+  where
+    at_finished : (finished_in after.contents ≡ finished_in before.contents) ⊎ (finished_in after.contents ≡ option_map (without_file file.name) (finished_in before.contents))
+        → (finished_in after.contents ≡ option_map (with_all_stored front) (finished_in start.contents))
+        ⊎ (finished_in after.contents ≡ option_map (without_file file.name) (option_map (with_all_stored front) (finished_in start.contents)))
+    at_finished (inl same) = inl (same ∙ so_far.ok.finished)
+    at_finished (inr gone) = inr (gone ∙ ap (option_map (without_file file.name)) so_far.ok.finished)
 
--- ---- the open file
-pub open_is_begun : (file : TableValue → StoredFile) (known : Option FolderContents) (table : TableValue) (name head : List ℕ) → record { name = name; bytes = head } ≡ file table → OpenIs file (option_map (with_bytes head) (option_map (with_begun name) known)) table
-open_is_begun file None table name head is = tt
-open_is_begun file (Some folder) table name head is = ap Some is
+    at_begun : (after.begun ≡ before.begun) ⊎ (after.begun ≡ before.begun ++ file.name ∷ [])
+        → (after.begun ≡ start.begun ++ names_of_files front) ⊎ (after.begun ≡ (start.begun ++ names_of_files front) ++ file.name ∷ [])
+    at_begun (inl same) = inl (same ∙ so_far.ok.begun)
+    at_begun (inr one) = inr (one ∙ ap (λ (names : List (List ℕ)). names ++ file.name ∷ []) so_far.ok.begun)
 
-pub open_is_added : (file : TableValue → StoredFile) (known : Option FolderContents) (table more : TableValue) (bytes : List ℕ) → more_bytes bytes (file table) ≡ file more → OpenIs file known table → OpenIs file (option_map (with_bytes bytes) known) more
-open_is_added file None table more bytes grows is = is
-open_is_added file (Some folder) table more bytes grows is = ap (option_map (more_bytes bytes)) is ∙ ap Some grows
+-- ---- the files of tables
+-- those of the tables up to one, and its own
+pub table_files_more : (front : List ℕ) (format : TableFormat) (rows : Relation) (tables : List ChosenTable) (i : ℕ) (table : ChosenTable)
+    → i < length tables → table ≡ get_or tables i table
+    → table_files front format (chosen_values rows (take i tables)) ++ table_file front format (chosen_value rows table) ∷ []
+    ≡ table_files front format (chosen_values rows (take (i + 1) tables))
+table_files_more front format rows tables i table within is =
+    sym (map-append (table_file front format) (chosen_values rows (take i tables)) (chosen_value rows table ∷ []))
+    ∙ ap (table_files front format) (sym (map-append (chosen_value rows) (take i tables) (table ∷ [])))
+    ∙ ap (λ (ts : List ChosenTable). table_files front format (chosen_values rows ts))
+    (ap (λ (t : ChosenTable). take i tables ++ t ∷ []) is ∙ sym (take_more tables i table within))
 
-pub table_opens : (format : TableFormat) (known : Option FolderContents) (name head : List ℕ) (columns : List (List ℕ)) (nullable : List Bool) → head ≡ opening format columns
-    → OpenIs (table_file format) (option_map (with_bytes head) (option_map (with_begun (name ++ ending format)) known))
-    (empty_table name columns nullable)
-table_opens format known name head columns nullable is =
-    open_is_begun (table_file format) known (empty_table name columns nullable) (name ++ ending format) head
-    (ap (λ (bytes : List ℕ). record { name = name ++ ending format; bytes = bytes }) (is ∙ sym (append-nil (opening format columns))))
-
-pub row_adds : (format : TableFormat) (known : Option FolderContents) (table : TableValue) (row : Tuple)
-    (front : List ℕ) (nullable : List Bool) (bytes : List ℕ) → front ≡ line_front format table.name table.columns
-    → nullable ≡ table.nullable → bytes ≡ row_line format front nullable row → OpenIs (table_file format) known table
-    → OpenIs (table_file format) (option_map (with_bytes bytes) known) (with_row row table)
-row_adds format known table row front nullable bytes front_is nullable_is is open_is =
-    open_is_added (table_file format) known table (with_row row table) bytes
-    (ap (λ (text : List ℕ). record { name = table.name ++ ending format; bytes = text })
-    (ap (λ (more : List ℕ). table_text format table ++ more) (is ∙ ap₂ (λ (f : List ℕ) (flags : List Bool). row_line format f flags row) front_is nullable_is)
-    ∙ flat_map_more (row_line format (line_front format table.name table.columns) table.nullable) (opening format table.columns) table.rows row))
-    open_is
-
--- ---- the names begun
-pub begun_more : (format : TableFormat) (files more names : List (List ℕ)) (name : List ℕ) → more ≡ files ++ (name ++ ending format) ∷ [] → FilesBegun format files names → FilesBegun format more (names ++ name ∷ [])
-begun_more format files more names name is are =
-    is
-    ∙ ap (λ (front : List (List ℕ)). front ++ (name ++ ending format) ∷ []) are
-    ∙ sym (map-append (λ (n : List ℕ). n ++ ending format) names (name ∷ []))
-
-pub may_begin_more : (format : TableFormat) (files more names : List (List ℕ)) (name : List ℕ) → (more ≡ files) ⊎ (more ≡ files ++ (name ++ ending format) ∷ []) → FilesBegun format files names
-    → FilesBegun format more names ⊎ FilesBegun format more (names ++ name ∷ [])
-may_begin_more format files more names name (inl same) are = inl (same ∙ are)
-may_begin_more format files more names name (inr is) are = inr (begun_more format files more names name is are)
-
--- ---- what the calls of a destination over a folder need
-pub ruleset file_steps = (table_opens, row_adds, files_are_finished, gives_up_begun, keeps_bytes, keeps_closed, begun_more, may_begin_more)
+-- those of all tables are those up to one, its own, and those after it
+pub table_files_split : (front : List ℕ) (format : TableFormat) (rows : Relation) (tables : List ChosenTable) (i : ℕ) (table : ChosenTable)
+    → i < length tables → table ≡ get_or tables i table
+    → table_files front format (chosen_values rows tables)
+    ≡ table_files front format (chosen_values rows (take i tables))
+    ++ table_file front format (chosen_value rows table) ∷ table_files front format (chosen_values rows (drop (i + 1) tables))
+table_files_split front format rows tables i table within is =
+    let rest = drop (i + 1) tables in
+    let split : tables ≡ take i tables ++ table ∷ rest =
+    sym (take-append-drop i tables)
+    ∙ ap (λ (later : List ChosenTable). take i tables ++ later)
+    (drop_more tables i table within ∙ ap (λ (t : ChosenTable). t ∷ rest) (sym is)) in
+    ap (λ (list : List ChosenTable). table_files front format (chosen_values rows list)) split
+    ∙ ap (table_files front format) (map-append (chosen_value rows) (take i tables) (table ∷ rest))
+    ∙ map-append (table_file front format) (chosen_values rows (take i tables)) (chosen_values rows (table ∷ rest))

@@ -1,4 +1,4 @@
 pub mod BufferLemmas
+pub mod AddingLemmas
 pub mod FileLemmas
 pub mod SqlLemmas
-pub mod FileSteps

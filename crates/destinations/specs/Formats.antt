@@ -1,5 +1,6 @@
--- How a table is written to a file, for the destination over a folder and for laws on its files.
-use Rattle.std.specs.Prelude.{ℕ, Bool, List, [], ◌++◌, codes}
+-- How a table becomes a file, before it is written to a folder: for all that writes tables, and for laws on their
+-- files.
+use Rattle.std.specs.Prelude.{ℕ, Bool, List, [], ◌++◌, map, codes}
 use Rattle.std.specs.List.{flat_map}
 use Rattle.csv_text.specs.Rows.{csv_row}
 use Rattle.dep_model.specs.Tuples.{Tuple}
@@ -35,5 +36,10 @@ table_text format table =
     opening format table.columns
     ++ flat_map (row_line format (line_front format table.name table.columns) table.nullable) table.rows
 
-abbrev pub table_file : TableFormat → TableValue → StoredFile
-table_file format table = record { name = table.name ++ ending format; bytes = table_text format table }
+-- the file of a table, in the folder of this path
+abbrev pub table_file : List ℕ → TableFormat → TableValue → StoredFile
+table_file front format table =
+    record { name = front ++ table.name ++ ending format; bytes = table_text format table }
+
+abbrev pub table_files : List ℕ → TableFormat → List TableValue → List StoredFile
+table_files front format tables = map (table_file front format) tables

@@ -1,7 +1,6 @@
--- The definitions of destinations, in reading order: what a destination stands for, SQL, what
--- each file has, the tables of files, and tables in memory.
-pub mod Destinations
+-- The definitions of destinations, in reading order: folders that gather, SQL, what each file of a table has, and what writing files
+-- leaves.
+pub mod Gathering
 pub mod Sql
 pub mod Formats
-pub mod FileTables
-pub mod Memory
+pub mod Writing

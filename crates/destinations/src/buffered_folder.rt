@@ -32,15 +32,15 @@ impl<G: Folder> BufferedFolder<G> {
 
     // Writes out what is gathered.
     fn write_out(&mut self) -> Result<(), OutsideFault>
-        requires is_open { IsTrue (G.is_open self.old.folder) }
+        requires is_open { IsTrue (G.state self.old.folder).is_open }
         ensures empty { OnOk result (self.new.buffer.items ≡ []) }
-        ensures ok { OnOk result (G.contents self.new.folder
-            ≡ option_map (with_bytes self.old.buffer.items) (G.contents self.old.folder)) }
-        ensures closed { OnErr result (G.contents self.new.folder
-            ≡ option_map with_none_open (G.contents self.old.folder)) }
-        ensures is_open { G.is_open self.new.folder ≡ is_ok result }
-        ensures same { G.begun self.new.folder ≡ G.begun self.old.folder }
-        ensures cause { HasOutsideCause (G.faults self.old.folder) (G.faults self.new.folder) result }
+        ensures ok { OnOk result ((G.state self.new.folder).contents
+            ≡ option_map (with_bytes self.old.buffer.items) (G.state self.old.folder).contents) }
+        ensures closed { OnErr result ((G.state self.new.folder).contents
+            ≡ option_map with_none_open (G.state self.old.folder).contents) }
+        ensures is_open { (G.state self.new.folder).is_open ≡ is_ok result }
+        ensures same { (G.state self.new.folder).begun ≡ (G.state self.old.folder).begun }
+        ensures cause { HasOutsideCause (G.state self.old.folder).faults (G.state self.new.folder).faults result }
     {
         write_all(&mut self.folder, &self.buffer)?;
         self.buffer.clear();
@@ -48,15 +48,11 @@ impl<G: Folder> BufferedFolder<G> {
     }
 }
 
-#[tactic(auto, using(crate::proofs::BufferLemmas::begun_gathered, crate::proofs::BufferLemmas::closed_gathered))]
+#[tactic(auto, using(crate::proofs::BufferLemmas::begun_gathered, crate::proofs::BufferLemmas::closed_gathered, crate::proofs::BufferLemmas::finished_gathered, crate::proofs::BufferLemmas::free_gathered))]
 impl<G: Folder> Folder for BufferedFolder<G> {
-    ghost contents = { λ f. option_map (with_bytes f.buffer.items) (G.contents f.folder) };
+    ghost use Rattle.destinations.specs.Gathering.{gathered};
 
-    ghost is_open = { λ f. G.is_open f.folder };
-
-    ghost begun = { λ f. G.begun f.folder };
-
-    ghost faults = { λ f. G.faults f.folder };
+    ghost state = { λ f. gathered f.buffer.items (G.state f.folder) };
 
     fn begin(&mut self, name: &[u8]) -> Result<(), OutsideFault> {
         self.buffer.clear();
@@ -75,6 +71,18 @@ impl<G: Folder> Folder for BufferedFolder<G> {
     fn end(&mut self) -> Result<(), OutsideFault> {
         self.write_out()?;
         self.folder.end()
+    }
+
+    fn give_up(&mut self) {
+        self.folder.give_up()
+    }
+
+    fn is_free(&self, name: &[u8]) -> bool {
+        self.folder.is_free(name)
+    }
+
+    fn make_folder(&mut self, name: &[u8]) -> Result<(), OutsideFault> {
+        self.folder.make_folder(name)
     }
 
     fn visible(&self) -> Option<&[HeldFile]> {

@@ -17,11 +17,17 @@ pub enum TableFormat {
     Sql,
 }
 
-/// The name of a table's file.
-pub fn file_name(alloc: Global, format: TableFormat, table: &Name) -> Result<Vec<u8>, OutOfMemory>
-    ensures name { IfOk result (λ name. name.items ≡ table.now ++ ending format) }
+/// The name of a table's file, after the path of its folder.
+pub fn file_name(
+    alloc: Global,
+    front: &[u8],
+    format: TableFormat,
+    table: &Name,
+) -> Result<Vec<u8>, OutOfMemory>
+    ensures name { IfOk result (λ name. name.items ≡ front.now ++ table.now ++ ending format) }
 {
-    let mut name = Vec::from_slice(alloc, table.bytes())?;
+    let mut name = Vec::from_slice(alloc, front)?;
+    add(&mut name, table.bytes())?;
     match format {
         TableFormat::Csv => add(&mut name, b".csv")?,
         TableFormat::Sql => add(&mut name, b".sql")?,

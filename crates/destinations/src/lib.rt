@@ -1,28 +1,23 @@
-//! Destinations of tables: in memory, CSV files, SQL files.
+//! Destinations of tables: folders to which tables are written as files, of CSV or of SQL.
 //!
-//! - [`Destination`] says what each call does to the finished tables and to the open one. A
-//!   `Box<dyn Destination>` is a destination.
-//! - [`MemoryDestination`] keeps the tables, and fails at chosen calls alone.
-//! - [`BufferedFolder`] gathers what is written to a folder. [`opening_of`], [`front_of`] and
-//!   [`add_line`] make the text of a table in a [`TableFormat`].
-//! - [`FileDestination`] writes each table to a file of a folder, in such a format. It makes known
-//!   what it holds where the folder does.
+//! - A [`Destination`] is a folder with the format of its files. A table becomes a file before it:
+//!   a destination takes a name and bytes.
+//! - [`write_table`] makes the text of a table, row by row, at the end of the open file;
+//!   [`file_name`] is the name of its file.
+//! - [`BufferedFolder`] gathers what is written to a folder.
 //!
-//! Promises: a destination holds what it was given, each table in place of one of its name, and
-//! says which names it has begun.
+//! Promises: what is written for a table is the text of the table in its format; a folder that
+//! gathers holds what its folder will hold.
 #![tactic(auto)]
 
-mod boxed;
 mod buffered_folder;
 mod destination;
-mod file_destination;
 mod format;
-mod memory;
 mod sql_line;
+mod table_text;
 
 pub use buffered_folder::BufferedFolder;
 pub use destination::Destination;
-pub use file_destination::FileDestination;
-pub use format::{TableFormat, add_line, front_of, opening_of};
-pub use memory::MemoryDestination;
+pub use format::{TableFormat, file_name};
 pub use sql_line::is_sql_text;
+pub use table_text::{LineMaker, write_table};

@@ -1,5 +1,4 @@
--- The definitions of own_folder, in reading order: places in which folders are made, the files of a migration, and
--- what writing them leaves.
-pub mod Places
+-- The definitions of own_folder, in reading order: the files of a migration, and what making a folder and writing them
+-- leaves.
 pub mod OwnFiles
 pub mod OwnWriting

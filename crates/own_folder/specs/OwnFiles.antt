@@ -1,21 +1,12 @@
--- The files that a migration has in a folder of its own: for the writer of such folders, and for what the
+-- The files that a migration has in a folder of its own: for the writing of such folders, and for what the
 -- whole call ends with.
-use Rattle.std.specs.Prelude.{ℕ, Bool, not, if◌then◌else◌, List, [], ◌∷◌, ◌++◌, map, codes}
+use Rattle.std.specs.Prelude.{ℕ, Bool, not, if◌then◌else◌, List, [], ◌∷◌, ◌++◌, codes}
 use Rattle.std.specs.List.{flat_map, list_any}
 use Rattle.desk_outside.specs.Files.{StoredFile}
 use Rattle.named_tables.specs.Tables.{TableValue}
-use Rattle.destinations.specs.Formats.{ending, table_text}
+use Rattle.destinations.specs.Formats.{table_files, table_text}
 use Rattle.destinations.specs.Sql.{is_sql_text}
 use Rattle.destinations.specs.declared.format.TableFormat.TheVariants.{Csv, Sql}
-
--- a name below a folder
-abbrev pub path_in : List ℕ → List ℕ → List ℕ
-path_in folder name = folder ++ codes "/" ++ name
-
--- the CSV file of a table
-abbrev pub csv_file : List ℕ → TableValue → StoredFile
-csv_file folder table =
-    record { name = path_in folder (table.name ++ ending Csv); bytes = table_text Csv table }
 
 -- whether a value can be no text of SQL, so that its bytes are written in hexadecimal digits
 abbrev pub is_bytes : List ℕ → Bool
@@ -41,12 +32,10 @@ abbrev pub load_text : List ℕ → List TableValue → List ℕ
 load_text script tables =
     load_front tables ++ script ++ flat_map (table_text Sql) tables ++ (codes "COMMIT;" ++ 10 ∷ [])
 
+-- the script of a migration, in the folder of this path
 abbrev pub load_file : List ℕ → List ℕ → List TableValue → StoredFile
-load_file folder script tables = record { name = path_in folder (codes "load.sql"); bytes = load_text script tables }
-
-abbrev pub csv_files : List ℕ → List TableValue → List StoredFile
-csv_files folder tables = map (csv_file folder) tables
+load_file path script tables = record { name = path ++ codes "load.sql"; bytes = load_text script tables }
 
 -- all files of a migration, in the order in which they are written
 abbrev pub own_files : List ℕ → List ℕ → List TableValue → List StoredFile
-own_files folder script tables = csv_files folder tables ++ load_file folder script tables ∷ []
+own_files path script tables = table_files path Csv tables ++ load_file path script tables ∷ []

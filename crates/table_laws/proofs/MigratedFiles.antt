@@ -22,7 +22,7 @@ use Rattle.schema_model.specs.Schemas.{Schema}
 use Rattle.dep_model.proofs.SchemeLemmas.{length-project_tuple, value_in-project_tuple}
 use Rattle.named_tables.specs.Tables.{TableValue}
 use Rattle.table_laws.proofs.PartFiles.{FitsItsColumns, part_back}
-use Rattle.destinations.specs.Formats.{table_file}
+use Rattle.destinations.specs.Formats.{table_text}
 use Rattle.destinations.specs.declared.format.TableFormat.TheVariants.{Csv}
 
 -- ---- distinct tuples
@@ -66,7 +66,7 @@ projection_back s rows x named over typed within_limit not_empty =
 table_back : (s : Schema) (names : GivenNames) (rows : Relation) (number : ℕ) (table : KeyedScheme) → All IsName (names_of s)
     → IsOver (width_of s) rows → FitsColumns s rows → length rows ≤ MOST_ROWS
     → 0 < count_below (attributes table.scheme) (width_of s)
-    → PartOf s (table_file Csv (table_of s names rows number table)).bytes (Ok (table_of s names rows number table).rows)
+    → PartOf s (table_text Csv (table_of s names rows number table)) (Ok (table_of s names rows number table).rows)
 table_back s names rows number table named over typed within_limit not_empty =
     let complete = misses_none (empty_values (nullable_of s)) (attributes table.key) in
     projection_back s (filter complete rows) (attributes table.scheme) named
@@ -78,10 +78,10 @@ table_back s names rows number table named over typed within_limit not_empty =
 pub tables_back : (s : Schema) (names : GivenNames) (rows : Relation) (number : ℕ) (design : List KeyedScheme)
     → All IsName (names_of s) → IsOver (width_of s) rows → FitsColumns s rows → length rows ≤ MOST_ROWS
     → All (λ (table : KeyedScheme). 0 < count_below (attributes table.scheme) (width_of s)) design
-    → All (λ (table : TableValue). PartOf s (table_file Csv table).bytes (Ok table.rows)) (tables_from s names rows number design)
+    → All (λ (table : TableValue). PartOf s (table_text Csv table) (Ok table.rows)) (tables_from s names rows number design)
 tables_back s names rows number [] named over typed within_limit not_empty = λ i d l. absurd (omega (arith, l))
 tables_back s names rows number (table ∷ design) named over typed within_limit not_empty =
-    let Back : TableValue → Type 0 = λ value. PartOf s (table_file Csv value).bytes (Ok value.rows) in
+    let Back : TableValue → Type 0 = λ value. PartOf s (table_text Csv value) (Ok value.rows) in
     All-cons Back (table_of s names rows number table) (tables_from s names rows (number + 1) design)
     (table_back s names rows number table named over typed within_limit (not_empty 0 table (omega arith)))
     (tables_back s names rows (number + 1) design named over typed within_limit

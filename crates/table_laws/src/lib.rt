@@ -27,7 +27,7 @@ ghost use Rattle.table_names.specs.TableNames.{GivenNames};
 ghost use Rattle.design_order.specs.Order.{IsInDesignOrder};
 ghost use Rattle.hex.specs.Hex.{IsBytes};
 ghost use Rattle.named_tables.specs.Tables.{TableValue};
-ghost use Rattle.destinations.specs.Formats.{table_file};
+ghost use Rattle.destinations.specs.Formats.{table_text};
 ghost use Rattle.destinations.specs.Sql.{quoted_text, sql_value, sql_cell};
 ghost use Rattle.destinations.specs.declared.format.TableFormat.TheVariants.{Csv};
 ghost use Rattle.table_laws.specs.References.{ReferencesAreStated};
@@ -39,17 +39,17 @@ ghost use Rattle.table_laws.specs.References.{ReferencesAreStated};
 pub fn files_of_tables_are_read_back()
     ensures whole { (s : Schema) (table : TableValue) → All IsName (names_of s)
         → table.columns ≡ names_of s → IsOver (width_of s) table.rows → FitsColumns s table.rows
-        → length table.rows ≤ MOST_ROWS → RowsOf s (table_file Csv table).bytes (Ok table.rows) }
+        → length table.rows ≤ MOST_ROWS → RowsOf s (table_text Csv table) (Ok table.rows) }
     ensures part { (s : Schema) (x : Attributes) (table : TableValue)
         → All IsName (names_of s) → 0 < count_below x (width_of s)
         → table.columns ≡ column_names s x → IsOver (count_below x (width_of s)) table.rows
         → All (λ t. (k : ℕ) (column : ColumnType) → x k ≡ true → slice_get (types_of s) k ≡ Some column
         → FitsColumn column (nullable_of s k) (value_in x t k)) table.rows
-        → length table.rows ≤ MOST_ROWS → PartOf s (table_file Csv table).bytes (Ok table.rows) }
+        → length table.rows ≤ MOST_ROWS → PartOf s (table_text Csv table) (Ok table.rows) }
     ensures migrated { (s : Schema) (names : GivenNames) (design : List KeyedScheme) (rows : Relation)
         → All IsName (names_of s) → IsOver (width_of s) rows → FitsColumns s rows
         → length rows ≤ MOST_ROWS → All (λ table. 0 < count_below (attributes table.scheme) (width_of s)) design
-        → All (λ table. PartOf s (table_file Csv table).bytes (Ok table.rows))
+        → All (λ table. PartOf s (table_text Csv table) (Ok table.rows))
         (tables_of_migration s names design rows) }
 {}
 

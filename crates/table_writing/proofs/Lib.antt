@@ -1,2 +1,2 @@
-pub mod WriteLemmas
 pub mod NameLemmas
+pub mod PositionLemmas

@@ -1,2 +1,2 @@
--- The definitions of table_writing: what writing tables to destinations leaves and reports.
+-- The definitions of table_writing: what writing tables to several destinations leaves.
 pub mod Writing

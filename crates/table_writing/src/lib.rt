@@ -1,16 +1,16 @@
-//! Tables handed to destinations.
+//! Tables written to destinations, each as a file.
 //!
-//! [`write_tables_to_list`] hands each table in order to each destination in order. A destination
-//! is left at its first fault, and the next one begins; each has an end of its own. [`laws`] says
-//! what they then hold.
+//! [`write_table_files`] writes the files of tables to one folder, up to the first error, and
+//! [`write_tables_to_list`] to each destination in order: one is left at its first error, and the
+//! next one begins; each has an end of its own. [`laws`] says what they then hold.
 //!
-//! Promises: each destination has all tables, or stopped at one and has those before it; each name
-//! is begun once; none is left open.
+//! Promises: each folder has all files, or stopped at one and has those before it; each name is
+//! begun once; none is left open.
 #![tactic(auto)]
 
-mod end;
+mod files;
 pub mod laws;
 mod writing;
 
-pub use end::WriteOutcome;
+pub use files::write_table_files;
 pub use writing::write_tables_to_list;

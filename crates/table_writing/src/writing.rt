@@ -1,30 +1,24 @@
-ghost use Rattle.std.specs.Prelude.{◌≡◌, ◌≤◌, ◌^◌, ◌<◌, [], ◌∷◌, length, None, IfOk, OnOk, OnErr};
-ghost use Rattle.desk_outside.specs.Causes.{HasOutsideCause};
-ghost use Rattle.desk_outside.specs.Begun.{Begins, MayBegin};
-ghost use Rattle.destinations.specs.Destinations.{MayGiveUp};
-ghost use Rattle.named_tables.specs.Choices.{HasRows};
-ghost use Rattle.named_tables.specs.Tables.{chosen_value, table_values};
-ghost use Rattle.table_writing.specs.Writing.{HasAll, WrittenDestination, AtEachPosition};
+ghost use Rattle.std.specs.Prelude.{◌≡◌, ◌^◌, ◌<◌, length, IfOk, OnErr};
+ghost use Rattle.named_tables.specs.Tables.{table_values};
+ghost use Rattle.table_writing.specs.Writing.{WrittenDestination, AtEachPosition};
 
-use crate::end::WriteOutcome;
+use crate::files::write_table_files;
 use dep_model::OutOfMemory;
-use desk_outside::OutsideFault;
-use destinations::Destination;
-use named_tables::{ChosenTable, ChosenTables};
-use row_store::Rows;
+use desk_outside::{Folder, OutsideFault};
+use destinations::{Destination, LineMaker};
+use named_tables::ChosenTables;
 use std::alloc::Global;
 
-/// Each destination in order gets each table in order, up to its first fault.
+/// Each destination in order gets each table in order, up to its first error.
 ///
-/// The memory for the outcomes is taken before the first call of a destination.
-pub fn write_tables_to_list<T: Destination>(
+/// The memory for the ends is taken before the first call of a destination.
+pub fn write_tables_to_list<G: Folder>(
     alloc: Global,
-    destinations: &mut Vec<T>,
+    destinations: &mut Vec<Destination<G>>,
     tables: &ChosenTables,
-) -> Result<Vec<WriteOutcome>, OutOfMemory>
+) -> Result<Vec<Result<(), OutsideFault>>, OutOfMemory>
     ensures written { IfOk result
-        (λ ends. AtEachPosition (WrittenDestination T.is_known T.finished T.begun T.width T.faults
-        (table_values tables.now))
+        (λ ends. AtEachPosition (WrittenDestination G.state (table_values tables.now))
         destinations.old.items destinations.new.items ends.items) }
     ensures err { OnErr result (destinations.new.items ≡ destinations.old.items) }
 {
@@ -32,66 +26,44 @@ pub fn write_tables_to_list<T: Destination>(
 }
 
 // Each destination of a slice.
-fn write_tables_to_each<T: Destination>(
+fn write_tables_to_each<G: Folder>(
     alloc: Global,
-    destinations: &mut [T],
+    destinations: &mut [Destination<G>],
     tables: &ChosenTables,
-) -> Result<Vec<WriteOutcome>, OutOfMemory>
+) -> Result<Vec<Result<(), OutsideFault>>, OutOfMemory>
     requires { length destinations.old < 2 ^ 64 }
     ensures written { IfOk result
-        (λ ends. AtEachPosition (WrittenDestination T.is_known T.finished T.begun T.width T.faults
-        (table_values tables.now))
+        (λ ends. AtEachPosition (WrittenDestination G.state (table_values tables.now))
         destinations.old destinations.new ends.items) }
     ensures err { OnErr result (destinations.new ≡ destinations.old) }
 {
     let Ok(mut ends) = Vec::with_capacity(alloc, destinations.len()) else {
         return Err(OutOfMemory);
     };
+    let mut lines = LineMaker::new(alloc);
     for destination in destinations.iter_mut() {
-        let end = write_tables_to_one(destination, tables);
+        let end = write_tables_to_one(destination, &mut lines, tables);
         ends.push_reserved(end);
     }
     Ok(ends)
 }
 
-// All tables into one destination, up to its first fault.
-fn write_tables_to_one<T: Destination>(destination: &mut T, tables: &ChosenTables) -> WriteOutcome
-    ensures written { WrittenDestination T.is_known T.finished T.begun T.width T.faults
-        (table_values tables.now) destination.old destination.new result }
-{
-    for table in &tables.tables {
-        match write_table(destination, &tables.rows, table) {
-            Ok(()) => {}
-            Err(OutsideFault::Failed) => return WriteOutcome::Failed,
-            Err(OutsideFault::OutOfMemory) => return WriteOutcome::OutOfMemory,
-        }
-    }
-    WriteOutcome::Done
-}
-
-// One table of these rows into one destination.
-#[tactic(auto, using(crate::proofs::WriteLemmas::row_next))]
-fn write_table<T: Destination>(
-    destination: &mut T,
-    rows: &Rows,
-    table: &ChosenTable,
+// All tables to one destination.
+fn write_tables_to_one<G: Folder>(
+    destination: &mut Destination<G>,
+    lines: &mut LineMaker,
+    tables: &ChosenTables,
 ) -> Result<(), OutsideFault>
-    requires even { HasRows rows.now table.now }
-    ensures is_known { T.is_known destination.new ≡ T.is_known destination.old }
-    ensures has { OnOk result (HasAll (chosen_value rows.now table.now ∷ []) (T.finished destination.old)
-        (T.finished destination.new)) }
-    ensures may_give_up { OnErr result (MayGiveUp (chosen_value rows.now table.now).name
-        (T.finished destination.old) (T.finished destination.new)) }
-    ensures begins { OnOk result (Begins (chosen_value rows.now table.now).name
-        (T.begun destination.old) (T.begun destination.new)) }
-    ensures may_begin { OnErr result (MayBegin (chosen_value rows.now table.now).name
-        (T.begun destination.old) (T.begun destination.new)) }
-    ensures closed { T.width destination.new ≡ None }
-    ensures cause { HasOutsideCause (T.faults destination.old) (T.faults destination.new) result }
+    ensures written { WrittenDestination G.state (table_values tables.now)
+        destination.old destination.new result }
 {
-    destination.begin_table(&table.name, &table.columns, &table.nullable)?;
-    for row in &table.chosen {
-        destination.put_row(rows, *row as usize, table.scheme)?;
-    }
-    destination.end_table()
+    let format = destination.format;
+    write_table_files(
+        &mut destination.folder,
+        lines,
+        b"",
+        format,
+        &tables.rows,
+        &tables.tables,
+    )
 }

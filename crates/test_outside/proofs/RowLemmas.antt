@@ -1,20 +1,14 @@
 -- How many values of a row a scheme takes.
 use Rattle.std.proofs.Common.{◌≡◌, ◌<◌, ℕ, List, [], ◌∷◌, ◌++◌, All, length, ap, sym, subst, ◌∙◌, arith}
 use Rattle.std.proofs.lemmas.List.Elements.{All-push}
-use Rattle.attr_sets.specs.Attributes.{Attributes, below, only, count_below}
-use Rattle.attr_sets.proofs.AttributesLemmas.{count_below-below, count_below-only}
+use Rattle.attr_sets.specs.Attributes.{Attributes, only, count_below}
+use Rattle.attr_sets.proofs.AttributesLemmas.{count_below-only}
 use Rattle.dep_model.specs.Projections.{project_tuple}
 use Rattle.dep_model.specs.Tuples.{Tuple, Relation, IsOver}
 use Rattle.dep_model.proofs.SchemeLemmas.{length-project_tuple}
 use Rattle.row_store.specs.Rows.{row_at}
 use Rattle.named_tables.specs.Choices.{HasRows}
 use Rattle.named_tables.specs.declared.table.ChosenTable.{ChosenTable}
-
-pub all_values : (scheme : Attributes) (row : Tuple) (n : ℕ) → scheme ≡ below n → length row ≡ n
-    → length (project_tuple scheme row) ≡ n
-all_values scheme row n is width =
-    length-project_tuple scheme row ∙ ap (count_below scheme) width ∙ ap (λ (s : Attributes). count_below s n) is
-    ∙ count_below-below n n (omega arith)
 
 -- a row of one value is there, and has a value for the one column
 abbrev IsChosen : Attributes → Relation → List (List ℕ) → ℕ → Type 0

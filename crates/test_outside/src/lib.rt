@@ -1,4 +1,4 @@
-//! Tests of the outside and of destinations, where calls fail one at a time; and a destination for
+//! Tests of the outside and of destinations, where calls fail one at a time; and a folder for
 //! tests, [`WithoutMemory`], which runs out of memory at each call.
 #![tactic(auto)]
 

@@ -69,6 +69,23 @@ pub(crate) fn three_tables(alloc: Global) -> Result<ChosenTables, OutOfMemory> {
     Ok(ChosenTables { rows, tables })
 }
 
+// A table of one column with three rows of this value.
+pub(crate) fn long_table(alloc: Global, value: &[u8]) -> Result<ChosenTables, OutOfMemory> {
+    let rows = rows_of(alloc, &[value, value, value])?;
+    let tables = one_table(alloc, &rows)?;
+    Ok(ChosenTables { rows, tables })
+}
+
+#[tactic(auto, using(crate::proofs::RowLemmas::table_more))]
+fn one_table(alloc: Global, rows: &Rows) -> Result<Vec<ChosenTable>, OutOfMemory>
+    requires over { IsOver 1 rows.now }
+    ensures even { IfOk result (λ tables. All (HasRows rows.now) tables.items) }
+{
+    let mut tables = Vec::new(alloc);
+    tables.push(table(alloc, b"t1", rows, &[0, 1, 2])?)?;
+    Ok(tables)
+}
+
 #[tactic(auto, using(crate::proofs::RowLemmas::table_more))]
 fn tables_of(alloc: Global, rows: &Rows) -> Result<Vec<ChosenTable>, OutOfMemory>
     requires over { IsOver 1 rows.now }

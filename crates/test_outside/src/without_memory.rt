@@ -1,78 +1,71 @@
-ghost use Rattle.std.specs.Prelude.{◌≡◌, false, None, Err, ⊤};
+ghost use Rattle.std.specs.Prelude.{◌≡◌, false, [], None, Err};
 ghost use Rattle.desk_outside.specs.declared.failure.OutsideFault.TheVariants.{OutOfMemory};
 
-use attr_sets::AttrSet;
-use desk_outside::{HeldFile, OutsideFault};
-use destinations::Destination;
-use named_tables::HeldTable;
-use row_store::Rows;
-use schema_model::Name;
+use desk_outside::{Folder, HeldFile, OutsideFault};
 
-/// A destination that runs out of memory at each call. It does not make known what it holds.
+/// A folder that runs out of memory at each call. It does not make known what it holds.
 #[derive(Drop)]
 pub struct WithoutMemory {
-    // a contract that no call can meet is refused: a table could be open
-    columns: Option<usize>,
+    // a contract that no call can meet is refused: a file could be open
+    is_open: bool,
 }
 
 impl WithoutMemory {
-    /// One without an open table.
+    /// One without an open file.
     pub fn new() -> WithoutMemory
-        ensures closed { result.columns ≡ None }
+        ensures closed { result.is_open ≡ false }
     {
-        WithoutMemory { columns: None }
+        WithoutMemory { is_open: false }
     }
 }
 
-impl Destination for WithoutMemory {
-    ghost is_known = { λ _. false };
+impl Folder for WithoutMemory {
+    ghost state = { λ folder. record { contents = None; is_open = folder.is_open; begun = []; faults = 0 } };
 
-    ghost finished = { λ _ _. ⊤ };
-
-    ghost opened = { λ _ _. ⊤ };
-
-    ghost begun = { λ _ _. ⊤ };
-
-    ghost width = { λ destination. destination.columns };
-
-    ghost faults = { λ _. 0 };
-
-    fn begin_table(
-        &mut self,
-        _name: &Name,
-        _columns: &[Name],
-        _nullable: &[bool],
-    ) -> Result<(), OutsideFault>
+    fn begin(&mut self, _name: &[u8]) -> Result<(), OutsideFault>
         ensures memory { result ≡ Err OutOfMemory }
-        ensures closed { self.new.columns ≡ None }
+        ensures closed { self.new.is_open ≡ false }
     {
-        self.columns = None;
+        self.is_open = false;
         Err(OutsideFault::OutOfMemory)
     }
 
-    fn put_row(&mut self, _rows: &Rows, _row: usize, _scheme: AttrSet) -> Result<(), OutsideFault>
+    fn write(&mut self, _piece: &[u8]) -> Result<usize, OutsideFault>
         ensures memory { result ≡ Err OutOfMemory }
-        ensures closed { self.new.columns ≡ None }
+        ensures closed { self.new.is_open ≡ false }
     {
-        self.columns = None;
+        self.is_open = false;
         Err(OutsideFault::OutOfMemory)
     }
 
-    fn end_table(&mut self) -> Result<(), OutsideFault>
+    fn end(&mut self) -> Result<(), OutsideFault>
         ensures memory { result ≡ Err OutOfMemory }
-        ensures closed { self.new.columns ≡ None }
+        ensures closed { self.new.is_open ≡ false }
     {
-        self.columns = None;
+        self.is_open = false;
         Err(OutsideFault::OutOfMemory)
     }
 
-    fn held_tables(&self) -> Option<&[HeldTable]>
-        ensures none { result ≡ None }
+    fn give_up(&mut self)
+        ensures closed { self.new.is_open ≡ false }
     {
-        None
+        self.is_open = false;
     }
 
-    fn held_files(&self) -> Option<&[HeldFile]>
+    fn is_free(&self, _name: &[u8]) -> bool
+        ensures taken { result ≡ false }
+    {
+        false
+    }
+
+    fn make_folder(&mut self, _name: &[u8]) -> Result<(), OutsideFault>
+        ensures memory { result ≡ Err OutOfMemory }
+        ensures same { self.new.is_open ≡ self.old.is_open }
+    {
+        Err(OutsideFault::OutOfMemory)
+    }
+
+    fn visible(&self) -> Option<&[HeldFile]>
         ensures none { result ≡ None }
     {
         None

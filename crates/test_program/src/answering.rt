@@ -1,6 +1,7 @@
-use crate::calls::{File, call, call_noted, failing_destination, slow_sink, slow_source};
+use crate::calls::{
+    Destinations, File, call, call_noted, csv_files, failing_folder, slow_sink, slow_source,
+};
 use desk_responses::Status;
-use destinations::Destination;
 use std::alloc::Global;
 use std::process::Abort;
 use std::test::Fail;
@@ -41,7 +42,7 @@ fn check(
     let alloc = rt.alloc();
     let mut source = slow_source(alloc, &FILES, &[failing])?;
     let mut sink = slow_sink(alloc, 1000)?;
-    let mut destinations: Vec<Box<dyn Destination>> = Vec::new(alloc);
+    let mut destinations: Destinations = Vec::new(alloc);
     let ended = call(alloc, words, &mut source, &mut sink, &mut destinations)?;
     assert!(rt; ended == status, "{words:?}, at {failing}");
     assert_eq!(rt; sink.bytes(), text);
@@ -75,7 +76,7 @@ fn check_full(rt: &(impl Alloc<A = Global> + Abort), capacity: usize) -> Result<
     let alloc = rt.alloc();
     let mut source = slow_source(alloc, &FILES, &[])?;
     let mut sink = slow_sink(alloc, capacity)?;
-    let mut destinations: Vec<Box<dyn Destination>> = Vec::new(alloc);
+    let mut destinations: Destinations = Vec::new(alloc);
     let ended = call(alloc, &IMPLIES, &mut source, &mut sink, &mut destinations)?;
     assert!(rt; ended == Status::CannotWrite);
     assert!(rt; YES.get(..capacity) == Some(sink.bytes()), "of {capacity}");
@@ -101,7 +102,7 @@ fn check_notice(rt: &(impl Alloc<A = Global> + Abort), capacity: usize) -> Resul
     let mut source = slow_source(alloc, &FILES, &[])?;
     let mut sink = slow_sink(alloc, 1000)?;
     let mut notices = slow_sink(alloc, capacity)?;
-    let mut destinations: Vec<Box<dyn Destination>> = Vec::new(alloc);
+    let mut destinations: Destinations = Vec::new(alloc);
     let ended = call_noted(
         alloc,
         &[b"explain"],
@@ -137,8 +138,8 @@ fn destinations_are_not_called_without_tables(rt: HostRuntime) -> Result<(), Fai
     for goal in [b"A -> C".as_slice(), b"C -> A", b"no goal"] {
         let mut source = slow_source(alloc, &FILES, &[])?;
         let mut sink = slow_sink(alloc, 1000)?;
-        let mut destinations: Vec<Box<dyn Destination>> = Vec::new(alloc);
-        destinations.push(Box::new(alloc, failing_destination(alloc, &[1])?)?)?;
+        let mut destinations: Destinations = Vec::new(alloc);
+        destinations.push(csv_files(Box::new(alloc, failing_folder(alloc, &[1])?)?))?;
         let words: &[&[u8]] = &[b"implies", b"s", goal];
         let status = call(alloc, words, &mut source, &mut sink, &mut destinations)?;
         assert!(rt; status != Status::DestinationFailed);

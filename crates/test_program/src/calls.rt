@@ -1,15 +1,17 @@
 use arguments::Argument;
 use dep_model::OutOfMemory;
 use desk_cli::desk;
-use desk_outside::{HeldFile, MemoryFiles, MemoryFolder, MemorySink};
+use desk_outside::{Folder, HeldFile, MemoryFiles, MemoryFolder, MemorySink};
 use desk_responses::Status;
-use destinations::{Destination, MemoryDestination};
-use own_folder::{MemoryFolders, OwnFolderWriter};
+use destinations::{Destination, TableFormat};
 use row_store::Hashing;
 use std::alloc::Global;
 
 // A name, and the text of the file of that name.
 pub(crate) type File<'a> = (&'a [u8], &'a [u8]);
+
+// The destinations of a call.
+pub(crate) type Destinations = Vec<Destination<Box<dyn Folder>>>;
 
 fn words_of(alloc: Global, words: &[&[u8]]) -> Result<Vec<Argument>, OutOfMemory> {
     let mut held = Vec::new(alloc);
@@ -41,7 +43,7 @@ pub(crate) fn call(
     words: &[&[u8]],
     source: &mut MemoryFiles,
     sink: &mut MemorySink,
-    destinations: &mut Vec<Box<dyn Destination>>,
+    destinations: &mut Destinations,
 ) -> Result<Status, OutOfMemory> {
     let mut notices = slow_sink(alloc, 1000)?;
     call_noted(alloc, words, source, sink, &mut notices, destinations)
@@ -54,10 +56,23 @@ pub(crate) fn call_noted(
     source: &mut MemoryFiles,
     sink: &mut MemorySink,
     notices: &mut MemorySink,
-    destinations: &mut Vec<Box<dyn Destination>>,
+    destinations: &mut Destinations,
+) -> Result<Status, OutOfMemory> {
+    let mut own = MemoryFolder::new(alloc, Vec::new(alloc));
+    call_into(alloc, words, source, sink, notices, destinations, &mut own)
+}
+
+// The same with a folder for folders of their own.
+pub(crate) fn call_into(
+    alloc: Global,
+    words: &[&[u8]],
+    source: &mut MemoryFiles,
+    sink: &mut MemorySink,
+    notices: &mut MemorySink,
+    destinations: &mut Destinations,
+    own: &mut MemoryFolder,
 ) -> Result<Status, OutOfMemory> {
     let words = words_of(alloc, words)?;
-    let mut own = folder_in_memory(alloc, &[], &[])?;
     desk(
         alloc,
         Hashing::Fixed,
@@ -66,22 +81,8 @@ pub(crate) fn call_noted(
         sink,
         notices,
         destinations,
-        &mut own,
+        own,
     )
-}
-
-// A folder of its own in memory, beside files of these names, whose making fails at these calls.
-pub(crate) fn folder_in_memory(
-    alloc: Global,
-    files: &[&[u8]],
-    fails: &[u64],
-) -> Result<OwnFolderWriter<MemoryFolders, MemoryFolder>, OutOfMemory> {
-    let place = MemoryFolders::new(
-        alloc,
-        words_of(alloc, files)?,
-        Vec::from_slice(alloc, fails)?,
-    );
-    OwnFolderWriter::new(alloc, place, MemoryFolder::new(alloc, Vec::new(alloc)))
 }
 
 // A sink that takes a byte at a time, so many in all.
@@ -89,10 +90,15 @@ pub(crate) fn slow_sink(alloc: Global, capacity: usize) -> Result<MemorySink, Ou
     Ok(MemorySink::with_step(alloc, capacity, Vec::new(alloc), 1)?)
 }
 
-// A destination in memory that fails at these calls.
-pub(crate) fn failing_destination(
-    alloc: Global,
-    fails: &[u64],
-) -> Result<MemoryDestination, OutOfMemory> {
-    Ok(MemoryDestination::new(alloc, Vec::from_slice(alloc, fails)?))
+// A destination of CSV files in a folder.
+pub(crate) fn csv_files(folder: Box<dyn Folder>) -> Destination<Box<dyn Folder>> {
+    Destination {
+        format: TableFormat::Csv,
+        folder,
+    }
+}
+
+// A folder in memory that fails at these calls.
+pub(crate) fn failing_folder(alloc: Global, fails: &[u64]) -> Result<MemoryFolder, OutOfMemory> {
+    Ok(MemoryFolder::new(alloc, Vec::from_slice(alloc, fails)?))
 }

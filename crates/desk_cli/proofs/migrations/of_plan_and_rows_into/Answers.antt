@@ -11,6 +11,7 @@ use Rattle.desk_inputs.specs.Rows.{rows_file}
 use Rattle.desk_inputs.proofs.BegunLemmas.{front_later, front_longer}
 use Rattle.desk_inputs.proofs.ReadingLemmas.{Shows-later}
 use Rattle.desk_responses.proofs.StepLemmas.{With-found}
+use Rattle.desk_outside.specs.FreeNames.{may_be_free}
 use Rattle.desk_cli.proofs.migrations.of_plan_and_rows_into.Goals as goal
 
 pub returns-in-Err-open_rows-clause-response : goal.returns-in-Err-open_rows-clause-response
@@ -29,7 +30,7 @@ returns-clause-response g c = λ r shows.
     let plan = named_schemes c.in-Ok.plan in
     let rows = c.in-Ok-open_rows.rows in
     let result = c.migrate_plan_into.result in
-    let looks = g.M.FolderMaker.may_be_free c.args.place.now in
+    let looks = may_be_free (g.G.Folder.state c.args.place.now).contents in
     let seen = subst (λ (name : List ℕ). IsTrue (looks name c.is_free-is_free.result)) c.bytes.ensures.bytes c.is_free-is_free.ensures.free in
     let after = Shows-later g.F.FileSource.files g.F.FileSource.faults g.F.FileSource.taken g.F.FileSource.begun c.args.source.now c.open_plan.new.source c.open_rows.new.source r (c.args.planned.now ∷ []) shows c.in-Ok.ensures.files c.in-Ok.ensures.later c.in-Ok.ensures.begins in
     With-found (FileStops (plan_file s) r c.args.planned.now) (IsFile (plan_file s) r c.args.planned.now) (λ (planned : NamedSchemes). WithFile (rows_file s) r file (λ rows. MigratesPlanInto looks s planned.names planned.schemes c.args.folder.now rows)) plan result

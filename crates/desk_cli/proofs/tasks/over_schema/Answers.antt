@@ -8,11 +8,12 @@ use Rattle.desk_cli.specs.Performs.{Does}
 use Rattle.desk_responses.proofs.StepLemmas.{With-found}
 use Rattle.desk_inputs.proofs.BegunLemmas.{front_later, front_longer}
 use Rattle.desk_inputs.proofs.ReadingLemmas.{Shows-later}
+use Rattle.desk_outside.specs.FreeNames.{may_be_free}
 use Rattle.desk_cli.proofs.tasks.over_schema.Goals as goal
 
 pub returns-clause-response : goal.returns-clause-response
 returns-clause-response g c = λ r shows.
-    With-found (FileStops schema_file r c.args.file.now) (IsFile schema_file r c.args.file.now) (λ schema. Does (g.M.FolderMaker.may_be_free c.args.place.now) r schema (task_form c.args.task)) c.in-Ok.schema c.perform_task.result
+    With-found (FileStops schema_file r c.args.file.now) (IsFile schema_file r c.args.file.now) (λ schema. Does (may_be_free (g.G.Folder.state c.args.place.now).contents) r schema (task_form c.args.task)) c.in-Ok.schema c.perform_task.result
     (c.in-Ok.ensures.ok r shows.same)
     (c.perform_task.ensures.response r (Shows-later g.F.FileSource.files g.F.FileSource.faults g.F.FileSource.taken g.F.FileSource.begun c.args.source.now c.open_schema.new.source c.perform_task.new.source r (c.args.file.now ∷ []) shows c.in-Ok.ensures.files c.in-Ok.ensures.later c.in-Ok.ensures.begins))
 

@@ -2,8 +2,7 @@
 use Rattle.std.proofs.Common.{ℕ, List, ◌∙◌, subst}
 use Rattle.desk_cli.specs.Desk.{source_in_call, sink_in_call, Delivered}
 use Rattle.desk_cli.specs.Help.{hint_of}
-use Rattle.desk_delivery.specs.Outcomes.{destinations_in_call, own_in_call}
-use Rattle.own_folder.specs.OwnWriting.{folder_in_call, place_in_call}
+use Rattle.desk_delivery.specs.Outcomes.{destinations_in_call, folder_in_call}
 use Rattle.desk_inputs.specs.Readings.{known_files}
 use Rattle.desk_responses.specs.Responses.{response_value}
 use Rattle.desk_cli.proofs.EndingLemmas.{desk_delivered}
@@ -21,16 +20,14 @@ returns g c =
     let source = source_in_call (files old) (files new) (faults old) (faults new) (taken new) (begun old) (begun new) in
     let sink = sink_in_call (g.K.Sink.contents c.args.out.now) (g.K.Sink.contents c.deliver.new.out) (g.K.Sink.faults c.args.out.now) (g.K.Sink.faults c.deliver.new.out) in
     let notices = sink_in_call (g.N.Sink.contents c.args.notices.now) (g.N.Sink.contents c.deliver.new.notices) (g.N.Sink.faults c.args.notices.now) (g.N.Sink.faults c.deliver.new.notices) in
-    let destinations = destinations_in_call g.T.Destination.is_known g.T.Destination.finished g.T.Destination.begun g.T.Destination.width g.T.Destination.faults c.args.destinations.now.items c.deliver.new.destinations.items in
-    let own = own_in_call
-    (place_in_call g.M.FolderMaker.made g.M.FolderMaker.faults c.args.own.now.place c.deliver.new.own.place)
-    (folder_in_call g.G.Folder.contents g.G.Folder.begun g.G.Folder.faults c.args.own.now.folder.folder c.deliver.new.own.folder.folder) in
+    let destinations = destinations_in_call g.D.Folder.state c.args.destinations.now.items c.deliver.new.destinations.items in
+    let own = folder_in_call g.G.Folder.state c.args.own.now c.deliver.new.own in
     let result = c.deliver.result in
     let response = response_value c.in_ok-response.response in
     let delivered : Delivered sink notices (hint_of c.args.words.now) destinations own response result =
     subst (λ (hint : List ℕ). Delivered sink notices hint destinations own response result) (c.deref.ensures.value ∙ c.in_ok-hint.ensures.hint) c.deliver.ensures.delivers in
     record {
-      desk = desk_delivered c.args.words.now (g.M.FolderMaker.may_be_free c.args.own.now.place) source sink notices destinations own response result
+      desk = desk_delivered c.args.words.now source sink notices destinations own response result
           (λ last is. c.in_ok-response.ensures.response _ (observed_shows files faults taken begun old new last is))
           (λ fs are calm. c.in_ok-response.ensures.response (known_files fs) (known_files_shows files faults taken begun old new fs are calm))
           delivered c.in_ok-response.ensures.files c.in_ok-response.ensures.later c.in_ok-response.ensures.reads;

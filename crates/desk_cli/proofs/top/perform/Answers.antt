@@ -8,12 +8,13 @@ use Rattle.desk_inputs.specs.FilesBegun.{BeginsFront}
 use Rattle.desk_inputs.proofs.BegunLemmas.{front_none}
 use Rattle.desk_responses.specs.Responses.{RespondsAs}
 use Rattle.desk_cli.proofs.SampleLemmas.{few_sampled}
+use Rattle.desk_outside.specs.FreeNames.{may_be_free}
 use Rattle.desk_cli.proofs.top.perform.Goals as goal
 
 pub returns-in-OverSchema-clause-response : goal.returns-in-OverSchema-clause-response
 unfolding Performs
 returns-in-OverSchema-clause-response g c = λ r shows.
-    subst (λ (command : Command). RespondsAs (Performs (g.M.FolderMaker.may_be_free c.args.place.now) r (command_form command)) c.over_schema.result) (sym c.in-OverSchema.is) (c.over_schema.ensures.response r shows)
+    subst (λ (command : Command). RespondsAs (Performs (may_be_free (g.G.Folder.state c.args.place.now).contents) r (command_form command)) c.over_schema.result) (sym c.in-OverSchema.is) (c.over_schema.ensures.response r shows)
 
 pub returns-in-OverSchema-clause-reads : goal.returns-in-OverSchema-clause-reads
 returns-in-OverSchema-clause-reads g c =
@@ -38,7 +39,7 @@ returns-in-CheckReferences-clause-reads g c =
 pub returns-in-CheckReferences-clause-response : goal.returns-in-CheckReferences-clause-response
 unfolding Performs
 returns-in-CheckReferences-clause-response g c = λ r shows.
-    subst (λ (command : Command). RespondsAs (Performs (g.M.FolderMaker.may_be_free c.args.place.now) r (command_form command)) c.of_two_headed.result) (sym c.in-CheckReferences.is) (c.of_two_headed.ensures.response r shows)
+    subst (λ (command : Command). RespondsAs (Performs (may_be_free (g.G.Folder.state c.args.place.now).contents) r (command_form command)) c.of_two_headed.result) (sym c.in-CheckReferences.is) (c.of_two_headed.ensures.response r shows)
 
 pub returns-in-ImportCsv-clause-reads : goal.returns-in-ImportCsv-clause-reads
 returns-in-ImportCsv-clause-reads g c =
@@ -55,7 +56,7 @@ pub returns-in-Sample-clause-response : goal.returns-in-Sample-clause-response
 unfolding Performs
 returns-in-Sample-clause-response g c = λ r shows.
     let persons = c.in-Sample.persons in
-    subst (λ (command : Command). RespondsAs (Performs (g.M.FolderMaker.may_be_free c.args.place.now) r (command_form command)) c.migrate_sample.result) (sym c.in-Sample.is)
+    subst (λ (command : Command). RespondsAs (Performs (may_be_free (g.G.Folder.state c.args.place.now).contents) r (command_form command)) c.migrate_sample.result) (sym c.in-Sample.is)
     (few_sampled persons.number c.migrate_sample.result persons.within_limit c.migrate_sample.ensures.response)
 
 pub returns-in-Help-clause-reads : goal.returns-in-Help-clause-reads

@@ -4,6 +4,6 @@ use Rattle.desk_laws.proofs.complete.answered_calls_end.Goals as goal
 
 pub returns : goal.returns
 returns g c = record {
-  law = λ words looks files source after sink notices old new place made folder filled result desk nowhere answered status is.
-      calls_end words looks files _ sink notices _ _ result desk nowhere answered status is;
+  law = λ words files source after sink notices old new folder filled result desk nowhere answered status is.
+      calls_end words files _ sink notices _ _ result desk nowhere answered status is;
 }

@@ -8,11 +8,11 @@ abbrev pub invariant-loop-written : goal.invariant-loop-written
 invariant-loop-written g l =
     let folder = g.G.Folder in
     record {
-      is_open : IsTrue (folder.is_open l.folder);
-      same : folder.begun l.folder ≡ folder.begun l.fn.folder;
-      fine : folder.faults l.folder ≡ folder.faults l.fn.folder;
+      is_open : IsTrue (folder.state l.folder).is_open;
+      same : (folder.state l.folder).begun ≡ (folder.state l.fn.folder).begun;
+      fine : (folder.state l.folder).faults ≡ (folder.state l.fn.folder).faults;
       within : l.written ≤ length l.bytes;
-      taken : folder.contents l.folder ≡ option_map (with_bytes (take l.written l.bytes)) (folder.contents l.fn.folder);
+      taken : (folder.state l.folder).contents ≡ option_map (with_bytes (take l.written l.bytes)) (folder.state l.fn.folder).contents;
     }
 
 abbrev pub decreases-loop-written : goal.decreases-loop-written

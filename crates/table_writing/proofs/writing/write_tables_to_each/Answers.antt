@@ -3,20 +3,17 @@
 use Rattle.std.proofs.Common.{rules, arith}
 use Rattle.named_tables.specs.Tables.{table_values}
 use Rattle.table_writing.specs.Writing.{WrittenDestination}
-use Rattle.table_writing.proofs.WriteLemmas.{holds_next, holds_all}
+use Rattle.table_writing.proofs.PositionLemmas.{holds_next, holds_all}
 use Rattle.table_writing.proofs.writing.write_tables_to_each.Goals as goal
 
 pub loop-destination-preserved : goal.loop-destination-preserved
-loop-destination-preserved g c =
-    let written = WrittenDestination g.T.Destination.is_known g.T.Destination.finished g.T.Destination.begun g.T.Destination.width g.T.Destination.faults (table_values c.args.tables.now) in
-    record {
-      written = holds_next written _ _ _ _ _ c.destination-item.result c.write_tables_to_one-end.new.destination c.write_tables_to_one-end.result
-          c.push_reserved.ensures.items
-          (omega (arith, c.loop-destination-test.true, c.loop-destination.invariant.written.count)) c.loop-destination.invariant.written c.write_tables_to_one-end.ensures.written;
-      room = search rules;
-    }
+loop-destination-preserved g c = record {
+  written = holds_next (WrittenDestination g.G.Folder.state (table_values c.args.tables.now)) _ _ _ _ _ c.destination-item.result
+      c.write_tables_to_one-end.new.destination c.write_tables_to_one-end.result c.push_reserved.ensures.items
+      (omega (arith, c.loop-destination-test.true, c.loop-destination.invariant.written.count)) c.loop-destination.invariant.written c.write_tables_to_one-end.ensures.written;
+  room = search rules;
+}
 
 pub returns-clause-written : goal.returns-clause-written
 returns-clause-written g c =
-    let written = WrittenDestination g.T.Destination.is_known g.T.Destination.finished g.T.Destination.begun g.T.Destination.width g.T.Destination.faults (table_values c.args.tables.now) in
-    holds_all written _ _ _ _ (omega arith) c.loop-destination.invariant.written
+    holds_all (WrittenDestination g.G.Folder.state (table_values c.args.tables.now)) _ _ _ _ (omega arith) c.loop-destination.invariant.written
