@@ -38,7 +38,7 @@ use Rattle.table_laws.proofs.MigratedFiles.{tables_back}
 use Rattle.table_laws.proofs.PartFiles.{scheme_back}
 use Rattle.table_names.specs.TableNames.{GivenNames}
 use Rattle.named_tables.specs.Tables.{TableValue}
-use Rattle.destinations.specs.Formats.{table_file}
+use Rattle.destinations.specs.Formats.{table_text}
 use Rattle.destinations.specs.declared.format.TableFormat.TheVariants.{Csv}
 use Rattle.desk_outside.specs.Files.{Files}
 use Rattle.desk_responses.specs.ResponseValues.{ResponseValue}
@@ -109,7 +109,7 @@ record IsWell (s : Schema) (keyed : KeyedScheme) : Type 0 where
 
 -- a file means the rows of its table
 abbrev IsBack : Schema → TableValue → Type 0
-IsBack s table = PartOf s (table_file Csv table).bytes (Ok table.rows)
+IsBack s table = PartOf s (table_text Csv table) (Ok table.rows)
 
 module _ (s : Schema) (rows : Relation) (over : IsOver (width_of s) rows) (named : All IsName (names_of s)) where
   rows_over : (keyed : KeyedScheme)
@@ -125,9 +125,9 @@ module _ (s : Schema) (rows : Relation) (over : IsOver (width_of s) rows) (named
       ∙ ap (λ (m : ℕ). count_below x m) (All-contains (λ (z : Tuple). length z ≡ width_of s) rows u over in_rows))
 
   means_part : (table : TableValue) (keyed : KeyedScheme) → IsTableFor s rows table keyed → IsWell s keyed → IsBack s table
-      → MeansPart s (table_file Csv table).bytes (part_for s rows keyed)
+      → MeansPart s (table_text Csv table) (part_for s rows keyed)
   means_part table keyed is well back = record {
-    rows = subst (λ (r : Relation). PartOf s (table_file Csv table).bytes (Ok r)) is.rows back;
+    rows = subst (λ (r : Relation). PartOf s (table_text Csv table) (Ok r)) is.rows back;
     columns =
         subst (λ (r : Relation). HasScheme s (rows_text table.columns r) keyed.scheme) (sym is.rows)
         (subst (λ (c : List (List ℕ)). HasScheme s (rows_text c (rows_for (empty_values (nullable_of s)) rows keyed)) keyed.scheme)
@@ -145,7 +145,7 @@ module _ (s : Schema) (rows : Relation) (over : IsOver (width_of s) rows) (named
   parts_are files (n ∷ ns) (t ∷ ts) [] hold are back well = absurd are
   parts_are files (n ∷ ns) (t ∷ ts) (d ∷ ds) hold are back well = (
     record {
-      bytes = (table_file Csv t).bytes;
+      bytes = table_text Csv t;
       content = hold.0;
       means = means_part t d are.0 (All-head (IsWell s) d ds well) (All-head (IsBack s) t ts back);
     },

@@ -8,7 +8,7 @@ use Rattle.dep_model.specs.Tuples.{Relation}
 use Rattle.schema_model.specs.Schemas.{LegalFor, Schema, width_of}
 use Rattle.table_names.specs.TableNames.{GivenNames}
 use Rattle.named_tables.specs.Tables.{TableValue}
-use Rattle.destinations.specs.Formats.{table_file}
+use Rattle.destinations.specs.Formats.{table_text}
 use Rattle.destinations.specs.declared.format.TableFormat.TheVariants.{Csv}
 use Rattle.desk_outside.specs.Files.{Files}
 use Rattle.desk_responses.specs.ResponseValues.{ResponseValue}
@@ -27,7 +27,7 @@ use Rattle.plan_laws.specs.Rejoined.{SaysTheRows}
 
 -- a file of no more bytes than are read holds the CSV text of a table
 abbrev pub HoldsTable : Files → List ℕ → TableValue → Type 0
-HoldsTable files name table = IsContent (known_files files) name MOST_CSV_BYTES (table_file Csv table).bytes
+HoldsTable files name table = IsContent (known_files files) name MOST_CSV_BYTES (table_text Csv table)
 
 -- files of these names hold the CSV texts of tables, each once, in whatever order
 pub record HoldTables (files : Files) (names : List (List ℕ)) (tables : List TableValue) : Type 0 where
