@@ -39,15 +39,15 @@ fn main(rt: HostRuntime) -> ExitCode {
         return exit_code(Err(OutOfMemory));
     };
     let mut destinations: Vec<Destination<Box<dyn Folder>>> = Vec::new(alloc);
-    let csv = Destination {
+    let csv_pushed = destinations.push(Destination {
         format: TableFormat::Csv,
         folder: csv,
-    };
-    let sql = Destination {
+    });
+    let sql_pushed = destinations.push(Destination {
         format: TableFormat::Sql,
         folder: sql,
-    };
-    if destinations.push(csv).is_err() || destinations.push(sql).is_err() {
+    });
+    if csv_pushed.is_err() || sql_pushed.is_err() {
         return exit_code(Err(OutOfMemory));
     }
     let hashing = Hashing::new(&rt);
