@@ -1,5 +1,0 @@
-pub mod Lists
-pub mod Tables
-pub mod Migrations
-pub mod Checks
-pub mod Measures
