@@ -52,7 +52,7 @@ fn check_fault(
 
 // A folder holds just so many of the files, the first ones.
 fn check_files(rt: &impl Abort, folder: &MemoryFolder, count: usize) -> Result<(), Fail> {
-    let names: [&[u8]; 3] = [b"t1.csv", b"t2.csv", b"t3.csv"];
+    let names: &[&[u8]] = &[b"t1.csv", b"t2.csv", b"t3.csv"];
     assert_eq!(rt; folder.finished_files().len(), count);
     for (file, name) in folder.finished_files().iter().zip(names.iter()) {
         assert_eq!(rt; file.name.bytes(), *name);
