@@ -1,0 +1,9 @@
+mod Tests
+mod Numbers
+mod Lines
+mod Columns
+mod Asked
+mod Checks
+mod Measures
+mod Designs
+mod Migrations
