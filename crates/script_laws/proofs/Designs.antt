@@ -1,9 +1,9 @@
 -- The statements that create the tables of a design are read back.
-use Rattle.std.proofs.Common.{◌≡◌, ◌+◌, ◌-◌, ◌&&◌, ◌==◌, ℕ, zero, suc, Bool, true, false, not, Some, None, List, [], ◌∷◌, ◌++◌, length, drop, map, filter, refl, sym, ap, subst, ◌∙◌, arith, append-nil}
+use Rattle.std.proofs.Common.{◌≡◌, ◌+◌, ◌<◌, ◌-◌, ◌&&◌, ◌==◌, ℕ, zero, suc, Bool, true, false, not, Some, None, List, [], ◌∷◌, ◌++◌, length, drop, map, filter, refl, sym, ap, subst, ◌∙◌, arith, append-nil}
 use Rattle.std.specs.Prelude.{All, IsTrue, codes, decimal, if◌then◌else◌, is_some, slice_index_or}
 use Rattle.std.specs.List.{flat_map, list_all, list_any}
-use Rattle.std.proofs.lemmas.Bool.{and_from, and_parts, cases_Bool, not-true, or_parts, true≢false}
-use Rattle.std.proofs.lemmas.Bool.Decides.{nat_tests}
+use Rattle.std.proofs.lemmas.Bool.{and_from, and_parts, leb-true}
+use Rattle.std.proofs.lemmas.Fmt.{decimal_digit}
 use Rattle.std.proofs.lemmas.List.Elements.{All-nil, All-cons, All-head, All-tail, All-append, All-map, All-weaker}
 use Rattle.attr_sets.specs.Attributes.{Attributes, difference}
 use Rattle.attr_sets.specs.Sets.{attributes}
@@ -26,8 +26,8 @@ use Rattle.ddl_text.specs.declared.table.TableDesign.{TableDesign}
 use Rattle.script_texts.specs.Queries.{is_bare_byte, is_column_name, IsTableName}
 use Rattle.script_texts.specs.Scripts.{is_line, ends_with, is_plain_type, IsElement, IsStatement, IsScript}
 use Rattle.script_laws.specs.Premises.{leaves_missing, HasPlainTypes}
-use Rattle.script_laws.proofs.Tests.{all_made, all_both}
-use Rattle.script_laws.proofs.Lines.{line_of_plain, type_plain, at_position}
+use Rattle.script_laws.proofs.Tests.{all_made, all_of, all_either}
+use Rattle.script_laws.proofs.Lines.{line_of_plain, decimal_plain, type_plain, at_position}
 
 -- ---- names
 -- a name in quotes is the name of a table
@@ -38,25 +38,29 @@ pub names_are : (s : Schema) (x : Attributes) → list_all is_column_name (attri
 names_are s x = all_made is_column_name attribute (members_from x 0 (names_of s)) (λ name. refl)
 
 -- ---- types
-scale_is : (scale : ℕ) → is_column_type (Decimal scale) ≡ true → is_plain_type (sql_type (Decimal scale)) ≡ true
-scale_is 0 is = refl
-scale_is 1 is = refl
-scale_is 2 is = refl
-scale_is 3 is = refl
-scale_is 4 is = refl
-scale_is 5 is = refl
-scale_is 6 is = refl
-scale_is 7 is = refl
-scale_is 8 is = refl
-scale_is 9 is = refl
-scale_is (suc (suc (suc (suc (suc (suc (suc (suc (suc (suc n)))))))))) is = absurd (true≢false (sym is))
+abbrev no_null : List ℕ → Bool
+no_null bytes = not (ends_with bytes (codes " NOT NULL"))
+
+abbrev decimal_text : List ℕ → List ℕ
+decimal_text digits = codes "DECIMAL(15, " ++ digits ++ codes ")"
+
+scale_is : (scale : ℕ) → scale < 10 → is_plain_type (decimal_text (decimal scale)) ≡ true
+scale_is scale within =
+    and_from (is_line (decimal_text (decimal scale))) (no_null (decimal_text (decimal scale)))
+    (line_of_plain (decimal_text (decimal scale))
+    (plain_both (codes "DECIMAL(15, " ++ decimal scale) (codes ")")
+    (plain_both (codes "DECIMAL(15, ") (decimal scale) refl (decimal_plain scale)) refl))
+    (ap (λ (digits : List ℕ). no_null (decimal_text digits)) (decimal_digit scale within))
+
+scale_within : (scale : ℕ) → is_column_type (Decimal scale) ≡ true → scale < 10
+scale_within scale is = let within = leb-true scale 9 is in omega (arith, within)
 
 type_is : (column : ColumnType) → is_column_type column ≡ true → leaves_missing column ≡ true → is_plain_type (sql_type column) ≡ true
 type_is Text is leaves = refl
 type_is Integer is leaves = refl
 type_is Date is leaves = refl
 type_is Timestamp is leaves = refl
-type_is (Decimal scale) is leaves = scale_is scale is
+type_is (Decimal scale) is leaves = scale_is scale (scale_within scale is)
 type_is Uuid is leaves = refl
 type_is (Other text) is leaves =
     let parts = and_parts _ (list_all is_type_byte text) is in
@@ -73,19 +77,15 @@ type_at_is : (s : Schema) → HasPlainTypes s → (k : ℕ) → PrintsPlain (sli
 type_at_is s plain k = at_position PrintsPlain (types_of s) Text refl (both_hold (types_of s) s.typed.each plain) k
 
 -- ---- elements
-all_of : {X Y : Type 0} (P : Y → Type 0) (make : X → Y) (xs : List X) → ((x : X) → P (make x)) → All P (map make xs)
-all_of P make xs each = All-map P make xs (λ k d within. each (slice_index_or xs k d))
-
 columns_are : (s : Schema) (table : TableDesign) → HasPlainTypes s → All IsElement (columns_made s table)
 columns_are s table plain =
     let nullable : Attributes = difference (nullable_of s) (attributes table.key) in
     all_of IsElement (column_made s nullable) (members_below (width_of s) (attributes table.scheme)) (λ k. (refl, type_at_is s plain k))
 
 key_is : (s : Schema) (key : Attributes) → All IsElement (key_made s key)
-key_is s key = elim (cases_Bool (is_empty key)) [
-  | inl empty ↦ rw empty (All-nil IsElement)
-  | inr other ↦ rw other (All-cons IsElement (primary_key (attribute_names s key)) [] (names_are s key) (All-nil IsElement))
-]
+key_is s key =
+    all_either IsElement (is_empty key) [] (primary_key (attribute_names s key) ∷ []) (All-nil IsElement)
+    (All-cons IsElement (primary_key (attribute_names s key)) [] (names_are s key) (All-nil IsElement))
 
 uniques_are : (s : Schema) (keys : List Attributes) → All IsElement (uniques_made s keys)
 uniques_are s keys = all_of IsElement (λ key. unique_key (attribute_names s key)) (stated_keys s keys) (λ key. names_are s key)
@@ -132,19 +132,19 @@ words_are s key names =
     line_of_plain (left_out_words s key)
     (plain_both (codes "UNIQUE (" ++ listed) last (plain_both (codes "UNIQUE (") listed refl (names_plain s key names)) refl)
 
-said_is : (s : Schema) (table : TableDesign) → All IsName (names_of s) → All (λ words. IsTrue (is_line words)) (said_of s table)
-said_is s table names = elim (cases_Bool (is_empty (attributes table.key))) [
-  | inl empty ↦ rw empty (one (codes "at most one row") refl)
-  | inr keyed ↦ rw keyed (elim (cases_Bool (is_some table.other_keys)) [
-    | inl known ↦
-        rw known (all_of (λ words. IsTrue (is_line words)) (left_out_words s) (left_out_keys s (known_keys table.other_keys))
-        (λ key. words_are s key names))
-    | inr unknown ↦ rw unknown (one (codes "further keys are not looked for") refl)
-  ])
-]
-  where
-    one : (words : List ℕ) → is_line words ≡ true → All (λ (said : List ℕ). IsTrue (is_line said)) (words ∷ [])
-    one words is = All-cons (λ (said : List ℕ). IsTrue (is_line said)) words [] is (All-nil (λ (said : List ℕ). IsTrue (is_line said)))
+one_line : (words : List ℕ) → is_line words ≡ true → All (λ (said : List ℕ). IsTrue (is_line said)) (words ∷ [])
+one_line words is = All-cons (λ (said : List ℕ). IsTrue (is_line said)) words [] is (All-nil (λ (said : List ℕ). IsTrue (is_line said)))
+
+said_is : (s : Schema) (table : TableDesign) → All IsName (names_of s) → All (λ (said : List ℕ). IsTrue (is_line said)) (said_of s table)
+said_is s table names =
+    let L : List ℕ → Type 0 = λ (said : List ℕ). IsTrue (is_line said) in
+    let left : List Attributes = left_out_keys s (known_keys table.other_keys) in
+    let unknown : List (List ℕ) = codes "further keys are not looked for" ∷ [] in
+    all_either L (is_empty (attributes table.key)) (codes "at most one row" ∷ [])
+    (if is_some table.other_keys then map (left_out_words s) left else unknown)
+    (one_line (codes "at most one row") refl)
+    (all_either L (is_some table.other_keys) (map (left_out_words s) left) unknown
+    (all_of L (left_out_words s) left (λ key. words_are s key names)) (one_line (codes "further keys are not looked for") refl))
 
 -- ---- tables
 table_is : (s : Schema) (tables : List TableDesign) (table : TableDesign) → All IsName (names_of s) → HasPlainTypes s

@@ -3,16 +3,16 @@ use Rattle.std.proofs.Common.{◌≡◌, ◌<◌, ◌+◌, ◌&&◌, ℕ, zero, 
 use Rattle.std.specs.Prelude.{All, codes, if◌then◌else◌, slice_index_or}
 use Rattle.std.specs.List.{list_all}
 use Rattle.std.proofs.lemmas.Bool.{and_from, cases_Bool, lt-ltb}
-use Rattle.std.proofs.lemmas.List.Elements.{All-nil, All-cons, All-append, All-map}
+use Rattle.std.proofs.lemmas.List.Elements.{All-nil, All-cons, All-append, All-from_recursion, All-map}
 use Rattle.attr_sets.specs.Attributes.{Attributes, union, intersection}
 use Rattle.attr_sets.specs.Sets.{attributes}
 use Rattle.dep_model.specs.Projections.{members_below}
 use Rattle.schema_model.specs.Columns.{is_plain_type}
-use Rattle.schema_model.specs.Names.{IsName}
+use Rattle.schema_model.specs.Names.{IsName, quotes_doubled}
 use Rattle.schema_model.specs.Schemas.{Schema, names_of, width_of, universe_of, nullable_of}
 use Rattle.schema_printer.specs.Printing.{is_integer, members_from}
 use Rattle.sql_syntax.specs.Names.{attribute_names, quoted_name, is_not_empty}
-use Rattle.sql_syntax.specs.Syntax.{ColumnName, attribute, helper, number_zero, missing_value, Condition, Item, Clause, Link, Query}
+use Rattle.sql_syntax.specs.Syntax.{ColumnName, attribute, helper, number_zero, missing_value, Condition, Item, Clause, Link, by_columns, crosswise, Query}
 use Rattle.sql_syntax.specs.Statements.{Statement, remark, begin, commit, create_zeros, create_from, create_view, insert_into, insert_all, drop_table}
 use Rattle.sql_check.specs.Columns.{name_at, type_at, compared_on}
 use Rattle.ddl_text.specs.Ddl.{is_empty, tables_made}
@@ -24,11 +24,23 @@ use Rattle.sql_migrate.specs.Moving.{copied_column, copied_at, copied_on, moved,
 use Rattle.sql_migrate.specs.Script.{copy_name, view_name, test_name, copy_query, has_value, have_values, rows_with, complete_rows, fill_query, fill, link, links, look_up, join_of, joined_tables, filled_tables, looked_up_tables, view_order, view_query, width_query, table_rows, viewed_rows, count_of, lacked, gained, testing, work, migration}
 use Rattle.script_texts.specs.Queries.{is_column_name, is_user_name, IsTableName, is_constant, are_tests, is_condition, is_item, is_item_of_group, are_one_group, is_clause, is_compound, IsLink, IsQueryAt, IsQuery}
 use Rattle.script_texts.specs.Scripts.{IsStatement, IsScript}
-use Rattle.script_texts.proofs.Lists.{Each}
 use Rattle.script_laws.specs.Premises.{HasPlainTypes}
 use Rattle.script_laws.proofs.Tests.{all_made, none_made}
 use Rattle.script_laws.proofs.Columns.{compared_are, compared_of_rows}
 use Rattle.script_laws.proofs.Designs.{table_named, names_are, tables_are}
+
+-- ---- names
+copy_named : IsTableName copy_name
+unfolding quotes_doubled
+copy_named = (codes "t0" ∷ [], refl)
+
+view_named : IsTableName view_name
+unfolding quotes_doubled
+view_named = (codes "joined" ∷ [], refl)
+
+test_named : IsTableName test_name
+unfolding quotes_doubled
+test_named = (codes "t00" ∷ [], refl)
 
 -- ---- the copy
 copied_is : (plain : Bool) (name : List ℕ) → is_item (copied_column plain name) ≡ true
@@ -49,7 +61,7 @@ copied_of_rows s x =
 
 copy_is : (s : Schema) (table : List ℕ) → IsTableName table → IsQuery (copy_query s table)
 unfolding copy_query
-copy_is s table named = (copied_are s (universe_of s), ((refl, named), (refl, ap not (copied_of_rows s (universe_of s)))))
+copy_is s table named = (copied_are s (universe_of s), (refl, named), refl, ap not (copied_of_rows s (universe_of s)))
 
 -- ---- from the copy, and back
 moved_is : (move : Move) (name : List ℕ) (of_integer : Bool) → is_item (moved move name of_integer) ≡ true
@@ -88,21 +100,24 @@ rows_are s items (k ∷ ks) rows =
 fill_query_is : (s : Schema) (table : TableDesign) → IsQuery (fill_query s table)
 unfolding fill_query
 fill_query_is s table =
-    (moved_are s Entering (attributes table.scheme), ((refl, (codes "t0" ∷ [], refl)), (refl,
+    (moved_are s Entering (attributes table.scheme), (refl, copy_named), refl,
     rows_are s (moved_on s Entering (attributes table.scheme))
     (members_below (width_of s) (intersection (attributes table.key) (nullable_of s)))
-    (moved_of_rows s Entering (attributes table.scheme)))))
+    (moved_of_rows s Entering (attributes table.scheme)))
 
 fill_is : (s : Schema) (table : TableDesign) → IsStatement (fill s table)
 unfolding fill
-fill_is s table = (table_named table.name, (names_are s (attributes table.scheme), fill_query_is s table))
+fill_is s table = (table_named table.name, names_are s (attributes table.scheme), fill_query_is s table)
 
 -- ---- the view
+either_link : (b : Bool) (one other : Link) → IsLink one → IsLink other → IsLink (if b then one else other)
+either_link true one other first second = first
+either_link false one other first second = second
+
 link_is : (s : Schema) (shared : Attributes) (table : JoinedTable) → IsLink (link s shared table)
-link_is s shared table = elim (cases_Bool (is_empty shared)) [
-  | inl empty ↦ rw empty (table_named table.name)
-  | inr some ↦ rw some (table_named table.name, names_are s shared)
-]
+link_is s shared table =
+    either_link (is_empty shared) (crosswise (quoted_name table.name)) (by_columns (quoted_name table.name) (attribute_names s shared))
+    (table_named table.name) (table_named table.name, names_are s shared)
 
 links_are : (s : Schema) (seen : Attributes) (tables : List JoinedTable) → All IsLink (links s seen tables)
 links_are s seen [] = All-nil IsLink
@@ -119,7 +134,8 @@ look_ups_are s tables =
 -- a schema has an attribute, so a user's table has a column
 first_named : (x : Attributes) (names : List (List ℕ)) → x 0 ≡ true → 0 < length names → is_not_empty (map attribute (members_from x 0 names)) ≡ true
 first_named x [] first some = absurd (omega (arith, some))
-first_named x (name ∷ names) first some = rw first refl
+first_named x (name ∷ names) first some =
+    ap (λ (b : Bool). is_not_empty (map attribute (if b then name ∷ members_from x 1 names else members_from x 1 names))) first
 
 some_names : (s : Schema) → is_not_empty (attribute_names s (universe_of s)) ≡ true
 some_names s = first_named (universe_of s) (names_of s) (lt-ltb 0 (width_of s) s.valid.names_not_empty) s.valid.names_not_empty
@@ -133,11 +149,11 @@ all_names s =
     (some_names s) (users_names s (universe_of s))
 
 join_is : (s : Schema) (tables : List JoinedTable) (optional : List TableDesign) → IsQuery (join_of s tables optional)
-join_is s [] optional = (all_names s, (([], refl), look_ups_are s optional))
+join_is s [] optional = (all_names s, ([], refl), look_ups_are s optional)
 join_is s (first ∷ tables) optional =
-    (all_names s, (table_named first.name,
+    (all_names s, table_named first.name,
     All-append IsLink (links s (attributes first.scheme) tables) (map (look_up s) optional)
-    (links_are s (attributes first.scheme) tables) (look_ups_are s optional)))
+    (links_are s (attributes first.scheme) tables) (look_ups_are s optional))
 
 view_is : (s : Schema) (tables : List TableDesign) → IsQuery (view_query s tables)
 unfolding view_query
@@ -155,16 +171,16 @@ missing_are (suc n) some = constants n
 width_is : (s : Schema) (table : List ℕ) → IsTableName table → IsQuery (width_query s table)
 unfolding width_query
 width_is s table named =
-    (refl, ((((refl, named), refl), (missing_are (width_of s) s.valid.names_not_empty, refl)), (refl, refl)))
+    (refl, (((refl, named), refl), missing_are (width_of s) s.valid.names_not_empty, refl), refl, refl)
 
 table_rows_are : (s : Schema) (table : List ℕ) → IsTableName table → IsQuery (table_rows s table)
 unfolding table_rows
-table_rows_are s table named = (compared_are s (universe_of s), ((refl, named), (refl, ap not (compared_of_rows s (universe_of s)))))
+table_rows_are s table named = (compared_are s (universe_of s), (refl, named), refl, ap not (compared_of_rows s (universe_of s)))
 
 viewed_rows_are : (s : Schema) → IsQuery (viewed_rows s)
 unfolding viewed_rows
 viewed_rows_are s =
-    (moved_are s Returning (universe_of s), ((refl, (codes "joined" ∷ [], refl)), (refl, ap not (moved_of_rows s Returning (universe_of s)))))
+    (moved_are s Returning (universe_of s), (refl, view_named), refl, ap not (moved_of_rows s Returning (universe_of s)))
 
 table_rows_alone : (s : Schema) (table : List ℕ) → not (is_compound (table_rows s table)) ≡ true
 unfolding table_rows
@@ -176,28 +192,19 @@ viewed_rows_alone s = refl
 
 count_is : (q : Query) → IsQueryAt true q → IsQuery (count_of q)
 unfolding count_of
-count_is q is = (refl, (is, (refl, refl)))
+count_is q is = (refl, is, refl, refl)
 
 lacked_is : (s : Schema) (table : List ℕ) → IsTableName table → IsQuery (count_of (lacked s table))
-lacked_is s table named = count_is (lacked s table) (table_rows_are s table named, (viewed_rows_are s, viewed_rows_alone s))
+lacked_is s table named = count_is (lacked s table) (table_rows_are s table named, viewed_rows_are s, viewed_rows_alone s)
 
 gained_is : (s : Schema) (table : List ℕ) → IsTableName table → IsQuery (count_of (gained s table))
-gained_is s table named = count_is (gained s table) (viewed_rows_are s, (table_rows_are s table named, table_rows_alone s table))
-
-test_named : IsTableName test_name
-test_named = (codes "t00" ∷ [], refl)
-
-copy_named : IsTableName copy_name
-copy_named = (codes "t0" ∷ [], refl)
+gained_is s table named = count_is (gained s table) (viewed_rows_are s, table_rows_are s table named, table_rows_alone s table)
 
 testing_is : (s : Schema) (table : List ℕ) → IsTableName table → IsScript (testing s table)
-testing_is s table named = each_holds (testing s table) (
-    (test_named, refl), (refl, ((test_named, width_is s table named), (refl, ((test_named, lacked_is s table named),
+testing_is s table named =
+    All-from_recursion IsStatement (testing s table)
+    ((test_named, refl), (refl, ((test_named, width_is s table named), (refl, ((test_named, lacked_is s table named),
     ((test_named, gained_is s table named), (test_named, (copy_named, tt))))))))
-  where
-    each_holds : (script : List Statement) → Each IsStatement script → IsScript script
-    each_holds [] each = All-nil IsStatement
-    each_holds (x ∷ xs) each = All-cons IsStatement x xs each.0 (each_holds xs each.1)
 
 -- ---- the script
 pub work_is : (s : Schema) (table : List ℕ) (tables : List TableDesign) → IsTableName table → All IsName (names_of s)
@@ -209,7 +216,7 @@ work_is s table tables named names plain =
     (tables_are s tables tables names plain)
     (All-append IsStatement (map (fill s) tables) (view ∷ testing s table)
     (All-map IsStatement (fill s) tables (λ k d within. fill_is s (slice_index_or tables k d)))
-    (All-cons IsStatement view (testing s table) ((codes "joined" ∷ [], refl), view_is s tables) (testing_is s table named))))
+    (All-cons IsStatement view (testing s table) (view_named, view_is s tables) (testing_is s table named))))
 
 pub migration_is : (s : Schema) (table : List ℕ) (tables : List TableDesign) → IsTableName table → All IsName (names_of s)
     → HasPlainTypes s → IsScript (migration s table tables)

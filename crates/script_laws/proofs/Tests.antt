@@ -1,8 +1,10 @@
--- Tests of lists: of what a function makes, and of what stands beside other members.
+-- Lists of what a function makes, beside other lists, and one of two lists: what is so of all members.
 use Rattle.std.proofs.Common.{◌≡◌, ◌||◌, ◌&&◌, Bool, true, false, List, [], ◌∷◌, ◌++◌, map, refl, ap, ◌∙◌}
+use Rattle.std.specs.Prelude.{All, if◌then◌else◌, slice_index_or}
 use Rattle.std.specs.List.{list_all, list_any}
 use Rattle.std.proofs.lemmas.Bool.{and_from, or_from, or_right}
 use Rattle.std.proofs.lemmas.List.Folds.{list_all-append, list_any-append}
+use Rattle.std.proofs.lemmas.List.Elements.{All-map}
 
 pub all_made : {X Y : Type 0} (test : Y → Bool) (make : X → Y) (xs : List X) → ((x : X) → test (make x) ≡ true)
     → list_all test (map make xs) ≡ true
@@ -20,3 +22,11 @@ all_both test xs ys first second = list_all-append test xs ys ∙ and_from (list
 
 pub any_later : {X : Type 0} (test : X → Bool) (xs ys : List X) → list_any test ys ≡ true → list_any test (xs ++ ys) ≡ true
 any_later test xs ys some = list_any-append test xs ys ∙ or_right (list_any test xs) (list_any test ys) some
+
+-- ---- what holds of all
+pub all_of : {X Y : Type 0} (P : Y → Type 0) (make : X → Y) (xs : List X) → ((x : X) → P (make x)) → All P (map make xs)
+all_of P make xs each = All-map P make xs (λ k d within. each (slice_index_or xs k d))
+
+pub all_either : {X : Type 0} (P : X → Type 0) (b : Bool) (xs ys : List X) → All P xs → All P ys → All P (if b then xs else ys)
+all_either P true xs ys first second = first
+all_either P false xs ys first second = second

@@ -1,8 +1,10 @@
 -- What a schema has whose scripts are read back from their texts: for the laws of what is printed.
-use Rattle.std.specs.Prelude.{Bool, true, not, IsTrue, All, codes}
+use Rattle.std.specs.Prelude.{Bool, true, not, IsTrue, IsSome, All, codes}
 use Rattle.schema_model.specs.declared.column_type.ColumnType.{ColumnType}
 use Rattle.schema_model.specs.declared.column_type.ColumnType.TheVariants.{Other}
-use Rattle.schema_model.specs.Schemas.{Schema, types_of, lines_of}
+use Rattle.schema_model.specs.Schemas.{Schema, width_of, types_of}
+use Rattle.relation_queries.specs.Queries.{breaches_of}
+use Rattle.sql_check.specs.Checks.{rules_of}
 use Rattle.script_texts.specs.Queries.{is_number}
 use Rattle.script_texts.specs.Scripts.{ends_with}
 
@@ -14,6 +16,8 @@ leaves_missing column = true
 abbrev pub HasPlainTypes : Schema → Type 0
 HasPlainTypes s = All (λ column. IsTrue (leaves_missing column)) (types_of s)
 
--- no dependency stands in line 1, which declares attributes, and each line is a number of 64 bits
+-- each dependency that a relation may break stands in a line whose number is 2 or more, of 64 bits: a dependency of line 1 has
+-- no names
 abbrev pub HasLaterLines : Schema → Type 0
-HasLaterLines s = All (λ line. IsTrue (is_number line)) (lines_of s)
+HasLaterLines s =
+    All (λ rule. IsSome (breaches_of (width_of s) rule.1) → IsTrue (is_number rule.0)) (rules_of s)

@@ -24,8 +24,8 @@ ghost use Rattle.ddl_text.specs.Ddl.{tables_made, ddl_text};
 ghost use Rattle.sql_migrate.specs.Script.{migration};
 ghost use Rattle.script_laws.specs.Premises.{HasPlainTypes, HasLaterLines};
 
-/// The queries of `sql check` can be read back: for missing values, for integers, and for each rule, where no
-/// dependency stands in the first line.
+/// The queries of `sql check` can be read back: for missing values, for integers, and for each rule, where those
+/// that may be broken stand after the first line.
 pub fn checks_are_read_back()
     ensures missing { (s : Schema) (table : List ℕ) → IsTableName table → IfSome (required_query s table) IsQuery }
     ensures integers { (table : List ℕ) (c : Column) → IsTableName table → IsTrue (is_column c)
