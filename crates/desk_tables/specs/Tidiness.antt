@@ -1,6 +1,7 @@
--- Rows of which a table would lose a value: for `migrate`, before it makes tables. A table has no row for a row that misses
--- a value of its key.
-use Rattle.std.specs.Prelude.{◌≡◌, ℕ, ◌+◌, ◌<◌, ◌&&◌, true, false, not, List, ◌++◌, codes, length, take, All, Option, Some, None}
+-- Rows of which a table would lose a value: for `migrate`, before it makes tables. A table has no row for a row
+-- that misses a value of its key.
+use Rattle.std.specs.Prelude.{◌≡◌, ℕ, ◌+◌, ◌<◌, ◌&&◌, true, false, not, List, ◌++◌, codes, length, take, All, Option}
+use Rattle.std.specs.Prelude.{Some, None}
 use Rattle.std.specs.Fmt.{decimal}
 use Rattle.std.specs.List.{AllZip, flat_map}
 use Rattle.attr_sets.specs.Attributes.{Attributes, IsFirstFrom}
