@@ -26,7 +26,8 @@ use Rattle.desk_texts.specs.Texts.{line}
 -- the key of a table is the primary key of its scheme
 abbrev pub HasPrimaryKey : Schema → KeyedScheme → Type 0
 HasPrimaryKey schema table =
-    IsPrimaryKey (width_of schema) (theory_of schema) (nullable_of schema) (attributes table.scheme) (attributes table.key)
+    IsPrimaryKey (width_of schema) (theory_of schema) (nullable_of schema) (attributes table.scheme)
+    (attributes table.key)
 
 -- the schemes of a plan in the order of a design, each with its primary key
 pub record IsKeyedDesign (schema : Schema) (plan : List Attributes) (design : List KeyedScheme) : Type 0 where

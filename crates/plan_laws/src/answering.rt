@@ -69,7 +69,8 @@ pub fn tables_have_one_answer()
     ensures into { (looks : Looks) (schema : Schema) (form : Form) (name : List ℕ) (rows : Relation)
         → HasOneLook looks → AllowsOne (MigratesInto looks schema form name rows) }
     ensures into_by_plan { (looks : Looks) (schema : Schema) (names : GivenNames) (plan : List Attributes)
-        (name : List ℕ) (rows : Relation) → HasOneLook looks → AllowsOne (MigratesPlanInto looks schema names plan name rows) }
+        (name : List ℕ) (rows : Relation) → HasOneLook looks
+        → AllowsOne (MigratesPlanInto looks schema names plan name rows) }
     ensures sample { (persons : ℕ) → persons ≤ MOST_PERSONS → AllowsOne (Samples persons) }
     ensures rejoin { (schema : Schema) (tables : List PartialRelation) → AllowsOne (JoinsTables schema tables) }
 {}
