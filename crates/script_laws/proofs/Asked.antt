@@ -1,6 +1,6 @@
 -- A query is a statement of a script, so a text has one query.
-use Rattle.std.proofs.Common.{◌≡◌, List, [], ◌∷◌, ◌++◌, ap, refl}
-use Rattle.std.specs.Prelude.{All, codes}
+use Rattle.std.proofs.Common.{◌≡◌, List, [], ◌∷◌, ◌++◌, ap}
+use Rattle.std.specs.Prelude.{codes}
 use Rattle.std.proofs.lemmas.List.Elements.{All-nil, All-cons}
 use Rattle.sql_syntax.specs.Printing.{query_text}
 use Rattle.sql_syntax.specs.Syntax.{Query, one_row}

@@ -11,7 +11,7 @@ use Rattle.schema_model.specs.Schemas.{Schema, width_of, universe_of}
 use Rattle.relation_queries.specs.Queries.{breaches_of}
 use Rattle.relation_queries.specs.Queries as terms
 use Rattle.sql_syntax.specs.Syntax.{Column, Item, Query}
-use Rattle.sql_check.specs.Columns.{columns_on, groups_on, groups_made, groups_shown, compared_on, items_on}
+use Rattle.sql_check.specs.Columns.{columns_on, groups_on, groups_made, groups_shown, items_on}
 use Rattle.sql_check.specs.Checks.{has_members, required_of, some_missing, missing_query, missing_among, required_query, integer_query, rules_of, values_query, line_item, groups_of_several, count_of_several, several_query, first_count, second_count, count_of_both, counts_query, three_counts, groups_of_unpaired, count_of_unpaired, unpaired_query, query_of, check_query}
 use Rattle.script_texts.specs.Queries.{IsTableName, is_number, is_column, is_condition, is_item, are_one_group, is_compound, IsQueryAt, IsQuery}
 use Rattle.script_laws.specs.Premises.{HasLaterLines}
@@ -24,10 +24,13 @@ missing_tests s k (m ∷ ms) = missing_tests s m ms
 
 pub missing_is : (s : Schema) (table : List ℕ) (k : ℕ) (ms : List ℕ) → IsTableName table → IsQuery (missing_query s table k ms)
 unfolding missing_query
-missing_is s table k ms named =
-    (items_are s (codes "r") (universe_of s) refl, (refl, named), refl,
-    and_from (is_condition (some_missing s k ms)) (not (are_one_group (items_on s (codes "r") (universe_of s))))
-    (missing_tests s k ms) (ap not (items_of_rows s (codes "r") (universe_of s))))
+missing_is s table k ms named = (
+  items_are s (codes "r") (universe_of s) refl,
+  (refl, named),
+  refl,
+  and_from (is_condition (some_missing s k ms)) (not (are_one_group (items_on s (codes "r") (universe_of s))))
+      (missing_tests s k ms) (ap not (items_of_rows s (codes "r") (universe_of s))),
+)
 
 among_is : (s : Schema) (table : List ℕ) (ks : List ℕ) → IsTableName table → IfSome (missing_among s table ks) IsQuery
 among_is s table [] named = tt
@@ -38,9 +41,12 @@ required_is s table named = among_is s table (members_below (width_of s) (requir
 
 pub integer_is : (table : List ℕ) (c : Column) → IsTableName table → is_column c ≡ true → IsQuery (integer_query table c)
 unfolding integer_query
-integer_is table c named is =
-    (and_from (is_column c) true is refl, (refl, named), refl,
-    and_from (is_column c && is_column c) true (and_from (is_column c) (is_column c) is is) refl)
+integer_is table c named is = (
+  and_from (is_column c) true is refl,
+  (refl, named),
+  refl,
+  and_from (is_column c && is_column c) true (and_from (is_column c) (is_column c) is is) refl,
+)
 
 -- ---- dependencies
 pub values_are : (s : Schema) (table : List ℕ) (w : Attributes) → IsTableName table → (is_source : Bool)
@@ -55,17 +61,22 @@ line_is line numbered = and_from (is_number line) true numbered refl
 groups_of_several_are : (s : Schema) (table : List ℕ) (line : ℕ) (x w : Attributes) → IsTableName table → is_number line ≡ true
     → IsQuery (groups_of_several s table line x w)
 unfolding groups_of_several
-groups_of_several_are s table line x w named numbered =
-    (and_from (is_item (line_item line)) (list_all is_item (items_on s (codes "d") x)) (line_is line numbered) (items_are s (codes "d") x refl),
-    values_are s table w named true, refl,
-    tested_groups (line_item line ∷ items_on s (codes "d") x) (columns_on s (codes "d") x) _ (columns_are s (codes "d") x refl) refl)
+groups_of_several_are s table line x w named numbered = (
+  and_from (is_item (line_item line)) (list_all is_item (items_on s (codes "d") x)) (line_is line numbered) (items_are s (codes "d") x refl),
+  values_are s table w named true,
+  refl,
+  tested_groups (line_item line ∷ items_on s (codes "d") x) (columns_on s (codes "d") x) _ (columns_are s (codes "d") x refl) refl,
+)
 
 count_of_several_is : (s : Schema) (table : List ℕ) (line : ℕ) (w : Attributes) → IsTableName table → is_number line ≡ true
     → IsQuery (count_of_several s table line w)
 unfolding count_of_several
-count_of_several_is s table line w named numbered =
-    (and_from (is_item (line_item line)) true (line_is line numbered) refl,
-    (refl, values_are s table w named true, refl, refl), refl, refl)
+count_of_several_is s table line w named numbered = (
+  and_from (is_item (line_item line)) true (line_is line numbered) refl,
+  (refl, values_are s table w named true, refl, refl),
+  refl,
+  refl,
+)
 
 either_is : (b : Bool) (p q : Query) → IsQuery p → IsQuery q → IsQuery (if b then p else q)
 either_is true p q first second = first
@@ -81,10 +92,13 @@ several_is s table line x w named numbered =
 counted_are : (s : Schema) (table : List ℕ) (x w : Attributes) (counts : List Item) → IsTableName table
     → list_all is_item counts ≡ true → are_one_group counts ≡ true → IsQuery (counts_query s table x w counts)
 unfolding counts_query
-counted_are s table x w counts named are group =
-    (counts_are s x counts are, values_are s table w named true, refl,
-    counted_groups (groups_made s x ++ counts) (columns_on s (codes "d") x) (columns_are s (codes "d") x refl)
-    (counts_of_groups s x counts group))
+counted_are s table x w counts named are group = (
+  counts_are s x counts are,
+  values_are s table w named true,
+  refl,
+  counted_groups (groups_made s x ++ counts) (columns_on s (codes "d") x) (columns_are s (codes "d") x refl)
+      (counts_of_groups s x counts group),
+)
 
 not_joined : (s : Schema) (table : List ℕ) (x w : Attributes) (counts : List Item) → not (is_compound (counts_query s table x w counts)) ≡ true
 unfolding counts_query
@@ -93,26 +107,35 @@ not_joined s table x w counts = refl
 three_are : (s : Schema) (table : List ℕ) (x y z : Attributes) → IsTableName table → (is_source : Bool)
     → IsQueryAt is_source (three_counts s table x y z)
 unfolding three_counts
-three_are s table x y z named is_source =
-    ((counted_are s table x (union x y) first_count named refl refl,
-    counted_are s table x (union x z) second_count named refl refl, not_joined s table x (union x z) second_count),
-    counted_are s table x (union x (union y z)) count_of_both named refl refl,
-    not_joined s table x (union x (union y z)) count_of_both)
+three_are s table x y z named is_source = (
+  (
+    counted_are s table x (union x y) first_count named refl refl,
+    counted_are s table x (union x z) second_count named refl refl,
+    not_joined s table x (union x z) second_count,
+  ),
+  counted_are s table x (union x (union y z)) count_of_both named refl refl,
+  not_joined s table x (union x (union y z)) count_of_both,
+)
 
 groups_of_unpaired_are : (s : Schema) (table : List ℕ) (line : ℕ) (x y z : Attributes) → IsTableName table → is_number line ≡ true
     → IsQuery (groups_of_unpaired s table line x y z)
 unfolding groups_of_unpaired
-groups_of_unpaired_are s table line x y z named numbered =
-    (and_from (is_item (line_item line)) (list_all is_item (groups_shown s x)) (line_is line numbered) (shown_are s x),
-    three_are s table x y z named true, refl,
-    tested_groups (line_item line ∷ groups_shown s x) (groups_on s x) _ (groups_are s x) refl)
+groups_of_unpaired_are s table line x y z named numbered = (
+  and_from (is_item (line_item line)) (list_all is_item (groups_shown s x)) (line_is line numbered) (shown_are s x),
+  three_are s table x y z named true,
+  refl,
+  tested_groups (line_item line ∷ groups_shown s x) (groups_on s x) _ (groups_are s x) refl,
+)
 
 count_of_unpaired_is : (s : Schema) (table : List ℕ) (line : ℕ) (x y z : Attributes) → IsTableName table → is_number line ≡ true
     → IsQuery (count_of_unpaired s table line x y z)
 unfolding count_of_unpaired
-count_of_unpaired_is s table line x y z named numbered =
-    (and_from (is_item (line_item line)) true (line_is line numbered) refl,
-    (refl, three_are s table x y z named true, refl, refl), refl, refl)
+count_of_unpaired_is s table line x y z named numbered = (
+  and_from (is_item (line_item line)) true (line_is line numbered) refl,
+  (refl, three_are s table x y z named true, refl, refl),
+  refl,
+  refl,
+)
 
 unpaired_is : (s : Schema) (table : List ℕ) (line : ℕ) (x y z : Attributes) → IsTableName table → is_number line ≡ true
     → IsQuery (unpaired_query s table line x y z)

@@ -1,12 +1,12 @@
 -- What is selected of the columns of a user's table is read back, and is no value of a group.
-use Rattle.std.proofs.Common.{◌≡◌, ◌+◌, ◌&&◌, ℕ, Bool, true, false, not, Some, None, List, [], ◌∷◌, ◌++◌, refl, ap}
+use Rattle.std.proofs.Common.{◌≡◌, ◌+◌, ℕ, true, false, Some, None, List, [], ◌∷◌, ◌++◌, refl}
 use Rattle.std.specs.Prelude.{codes}
 use Rattle.std.specs.List.{list_all}
 use Rattle.std.proofs.lemmas.Bool.{and_from}
 use Rattle.attr_sets.specs.Attributes.{Attributes, count_below}
 use Rattle.dep_model.specs.Projections.{members_below}
 use Rattle.schema_model.specs.Schemas.{Schema, width_of}
-use Rattle.sql_syntax.specs.Syntax.{Column, attribute, column, Item, own, named, Condition, Clause, groups_by}
+use Rattle.sql_syntax.specs.Syntax.{Column, attribute, column, Item, own, named, Condition, groups_by}
 use Rattle.sql_check.specs.Columns.{name_at, column_at, columns_on, items_on, compared_at, compared_on, group_name, group_at, groups_made, groups_on, groups_shown}
 use Rattle.script_texts.specs.Queries.{is_bare, is_column, is_condition, is_item, is_item_of_group, are_one_group, is_clause}
 use Rattle.script_laws.proofs.Tests.{all_made, none_made, all_both, any_later}

@@ -1,7 +1,7 @@
 -- The statements that create the tables of a design are read back.
-use Rattle.std.proofs.Common.{◌≡◌, ◌+◌, ◌<◌, ◌-◌, ◌&&◌, ◌==◌, ℕ, zero, suc, Bool, true, false, not, Some, None, List, [], ◌∷◌, ◌++◌, length, drop, map, filter, refl, sym, ap, subst, ◌∙◌, arith, append-nil}
+use Rattle.std.proofs.Common.{◌≡◌, ◌<◌, ℕ, Bool, true, not, List, [], ◌∷◌, ◌++◌, map, refl, sym, ap, arith, append-nil}
 use Rattle.std.specs.Prelude.{All, IsTrue, codes, decimal, if◌then◌else◌, is_some, slice_index_or}
-use Rattle.std.specs.List.{flat_map, list_all, list_any}
+use Rattle.std.specs.List.{flat_map, list_all}
 use Rattle.std.proofs.lemmas.Bool.{and_from, and_parts, leb-true}
 use Rattle.std.proofs.lemmas.Fmt.{decimal_digit}
 use Rattle.std.proofs.lemmas.List.Elements.{All-nil, All-cons, All-head, All-tail, All-append, All-map, All-weaker}
@@ -9,7 +9,7 @@ use Rattle.attr_sets.specs.Attributes.{Attributes, difference}
 use Rattle.attr_sets.specs.Sets.{attributes}
 use Rattle.dep_model.specs.Projections.{members_below}
 use Rattle.schema_model.specs.Columns.{is_column_type}
-use Rattle.schema_model.specs.Names.{IsName, is_type_byte, is_type_text}
+use Rattle.schema_model.specs.Names.{IsName, is_type_byte}
 use Rattle.schema_model.specs.Schemas.{Schema, names_of, types_of, width_of, nullable_of}
 use Rattle.schema_model.specs.declared.column_type.ColumnType.{ColumnType}
 use Rattle.schema_model.specs.declared.column_type.ColumnType.TheVariants.{Text, Integer, Date, Timestamp, Decimal, Uuid, Other}
@@ -18,12 +18,12 @@ use Rattle.schema_printer.specs.Printing.{members_from}
 use Rattle.schema_printer.proofs.MemberLemmas.{members_each}
 use Rattle.sql_syntax.specs.Names.{attribute_names, quoted_name, separator}
 use Rattle.sql_syntax.specs.Printing.{name_text, names_text}
-use Rattle.sql_syntax.specs.Syntax.{ColumnName, attribute}
+use Rattle.sql_syntax.specs.Syntax.{attribute}
 use Rattle.sql_syntax.specs.Statements.{Element, primary_key, unique_key, Statement, remark, create_table}
-use Rattle.ddl_text.specs.Ddl.{sql_type, column_made, columns_of_set, columns_made, is_empty, stated_keys, left_out_keys, key_made, uniques_made, keys_made, reference_made, references_to, references_made, elements_made, left_out_words, said_of, remarks_made, table_made, tables_made}
+use Rattle.ddl_text.specs.Ddl.{sql_type, column_made, columns_made, is_empty, stated_keys, left_out_keys, key_made, uniques_made, keys_made, reference_made, references_made, elements_made, left_out_words, said_of, remarks_made, table_made, tables_made}
 use Rattle.ddl_text.specs.Designs.{known_keys}
 use Rattle.ddl_text.specs.declared.table.TableDesign.{TableDesign}
-use Rattle.script_texts.specs.Queries.{is_bare_byte, is_column_name, IsTableName}
+use Rattle.script_texts.specs.Queries.{is_column_name, IsTableName}
 use Rattle.script_texts.specs.Scripts.{is_line, ends_with, is_plain_type, IsElement, IsStatement, IsScript}
 use Rattle.script_laws.specs.Premises.{leaves_missing, HasPlainTypes}
 use Rattle.script_laws.proofs.Tests.{all_made, all_of, all_either}

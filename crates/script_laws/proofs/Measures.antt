@@ -45,10 +45,18 @@ counted_rows_are s table x is_table =
 totals_are : (rows : Column) (amount : Scalar) (name : List ℕ) (test : Condition) (groups : Query) → is_column rows ≡ true
     → is_scalar amount ≡ true → is_condition test ≡ true → IsQueryAt true groups → IsQuery (totals_query rows amount name test groups)
 unfolding totals_query
-totals_are rows amount name test groups row_is amount_is test_is source =
-    (refl, (and_from (is_column rows && true) _ (and_from (is_column rows) true row_is refl)
-    (and_from (is_scalar amount && true) true (and_from (is_scalar amount) true amount_is refl) refl),
-    source, refl, and_from (is_condition test) true test_is refl), refl, refl)
+totals_are rows amount name test groups row_is amount_is test_is source = (
+  refl,
+  (
+    and_from (is_column rows && true) _ (and_from (is_column rows) true row_is refl)
+        (and_from (is_scalar amount && true) true (and_from (is_scalar amount) true amount_is refl) refl),
+    source,
+    refl,
+    and_from (is_condition test) true test_is refl,
+  ),
+  refl,
+  refl,
+)
 
 -- ---- functional dependencies
 abbrev row_count : List Item
@@ -56,10 +64,13 @@ row_count = named count (helper (codes "n")) ∷ []
 
 classes_are : (s : Schema) (table : List ℕ) (x w : Attributes) → IsTableName table → IsQueryAt true (classes_query s table x w)
 unfolding classes_query
-classes_are s table x w is_table =
-    (counts_are s x row_count refl, rows_are s table w is_table true, refl,
-    counted_groups (groups_made s x ++ row_count) (columns_on s (codes "d") w) (columns_are s (codes "d") w refl)
-    (counts_of_groups s x row_count refl))
+classes_are s table x w is_table = (
+  counts_are s x row_count refl,
+  rows_are s table w is_table true,
+  refl,
+  counted_groups (groups_made s x ++ row_count) (columns_on s (codes "d") w) (columns_are s (codes "d") w refl)
+      (counts_of_groups s x row_count refl),
+)
 
 abbrev class_counts : List Item
 class_counts =
@@ -68,9 +79,12 @@ class_counts =
 
 groups_are : (s : Schema) (table : List ℕ) (x w : Attributes) → IsTableName table → IsQueryAt true (groups_query s table x w)
 unfolding groups_query
-groups_are s table x w is_table =
-    (refl, classes_are s table x w is_table, refl,
-    counted_groups class_counts (keys_on s (codes "c") x) (keys_are s (codes "c") x refl) refl)
+groups_are s table x w is_table = (
+  refl,
+  classes_are s table x w is_table,
+  refl,
+  counted_groups class_counts (keys_on s (codes "c") x) (keys_are s (codes "c") x refl) refl,
+)
 
 change_is : (s : Schema) (table : List ℕ) (x w : Attributes) → IsTableName table → IsQuery (change_query s table x w)
 change_is s table x w is_table =
@@ -81,10 +95,13 @@ change_is s table x w is_table =
 counts_is : (s : Schema) (x : Attributes) (source : Query) (counts : List Item) → IsQueryAt true source
     → list_all is_item counts ≡ true → are_one_group counts ≡ true → IsQuery (counts_query s x source counts)
 unfolding counts_query
-counts_is s x source counts is are group =
-    (counts_are s x counts are, is, refl,
-    counted_groups (groups_made s x ++ counts) (columns_on s (codes "d") x) (columns_are s (codes "d") x refl)
-    (counts_of_groups s x counts group))
+counts_is s x source counts is are group = (
+  counts_are s x counts are,
+  is,
+  refl,
+  counted_groups (groups_made s x ++ counts) (columns_on s (codes "d") x) (columns_are s (codes "d") x refl)
+      (counts_of_groups s x counts group),
+)
 
 not_joined : (s : Schema) (x : Attributes) (source : Query) (counts : List Item) → not (is_compound (counts_query s x source counts)) ≡ true
 unfolding counts_query
@@ -107,9 +124,12 @@ pair_counts =
 
 pairs_are : (s : Schema) (table : List ℕ) (x y z : Attributes) → IsTableName table → IsQueryAt true (pairs_query s table x y z)
 unfolding pairs_query
-pairs_are s table x y z is_table =
-    (refl, four_are s table x y z is_table, refl,
-    counted_groups pair_counts (keys_on s (codes "e") x) (keys_are s (codes "e") x refl) refl)
+pairs_are s table x y z is_table = (
+  refl,
+  four_are s table x y z is_table,
+  refl,
+  counted_groups pair_counts (keys_on s (codes "e") x) (keys_are s (codes "e") x refl) refl,
+)
 
 lack_is : (s : Schema) (table : List ℕ) (x y z : Attributes) → IsTableName table → IsQuery (lack_query s table x y z)
 lack_is s table x y z is_table =

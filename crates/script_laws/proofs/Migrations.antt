@@ -1,8 +1,8 @@
 -- The statements of `sql migrate` are read back.
-use Rattle.std.proofs.Common.{◌≡◌, ◌<◌, ◌+◌, ◌&&◌, ℕ, zero, suc, Bool, true, false, not, Some, None, List, [], ◌∷◌, ◌++◌, length, map, replicate, refl, sym, ap, subst, ◌∙◌, arith}
+use Rattle.std.proofs.Common.{◌≡◌, ◌<◌, ◌&&◌, ℕ, zero, suc, Bool, true, false, not, List, [], ◌∷◌, ◌++◌, length, map, replicate, refl, ap, arith}
 use Rattle.std.specs.Prelude.{All, codes, if◌then◌else◌, slice_index_or}
 use Rattle.std.specs.List.{list_all}
-use Rattle.std.proofs.lemmas.Bool.{and_from, cases_Bool, lt-ltb}
+use Rattle.std.proofs.lemmas.Bool.{and_from, lt-ltb}
 use Rattle.std.proofs.lemmas.List.Elements.{All-nil, All-cons, All-append, All-from_recursion, All-map}
 use Rattle.attr_sets.specs.Attributes.{Attributes, union, intersection}
 use Rattle.attr_sets.specs.Sets.{attributes}
@@ -12,17 +12,17 @@ use Rattle.schema_model.specs.Names.{IsName, quotes_doubled}
 use Rattle.schema_model.specs.Schemas.{Schema, names_of, width_of, universe_of, nullable_of}
 use Rattle.schema_printer.specs.Printing.{is_integer, members_from}
 use Rattle.sql_syntax.specs.Names.{attribute_names, quoted_name, is_not_empty}
-use Rattle.sql_syntax.specs.Syntax.{ColumnName, attribute, helper, number_zero, missing_value, Condition, Item, Clause, Link, by_columns, crosswise, Query}
-use Rattle.sql_syntax.specs.Statements.{Statement, remark, begin, commit, create_zeros, create_from, create_view, insert_into, insert_all, drop_table}
-use Rattle.sql_check.specs.Columns.{name_at, type_at, compared_on}
+use Rattle.sql_syntax.specs.Syntax.{attribute, missing_value, Item, Link, by_columns, crosswise, Query}
+use Rattle.sql_syntax.specs.Statements.{Statement, begin, commit, create_from, create_view}
+use Rattle.sql_check.specs.Columns.{name_at, type_at}
 use Rattle.ddl_text.specs.Ddl.{is_empty, tables_made}
 use Rattle.ddl_text.specs.declared.table.TableDesign.{TableDesign}
 use Rattle.sql_migrate.specs.declared.joining.JoinedTable.{JoinedTable}
 use Rattle.sql_migrate.specs.declared.moving.Move.{Move}
 use Rattle.sql_migrate.specs.declared.moving.Move.TheVariants.{Entering, Returning}
 use Rattle.sql_migrate.specs.Moving.{copied_column, copied_at, copied_on, moved, moved_at, moved_on}
-use Rattle.sql_migrate.specs.Script.{copy_name, view_name, test_name, copy_query, has_value, have_values, rows_with, complete_rows, fill_query, fill, link, links, look_up, join_of, joined_tables, filled_tables, looked_up_tables, view_order, view_query, width_query, table_rows, viewed_rows, count_of, lacked, gained, testing, work, migration}
-use Rattle.script_texts.specs.Queries.{is_column_name, is_user_name, IsTableName, is_constant, are_tests, is_condition, is_item, is_item_of_group, are_one_group, is_clause, is_compound, IsLink, IsQueryAt, IsQuery}
+use Rattle.sql_migrate.specs.Script.{copy_name, view_name, test_name, copy_query, have_values, rows_with, fill_query, fill, link, links, look_up, join_of, joined_tables, filled_tables, looked_up_tables, view_order, view_query, width_query, table_rows, viewed_rows, count_of, lacked, gained, testing, work, migration}
+use Rattle.script_texts.specs.Queries.{is_user_name, IsTableName, is_constant, are_tests, is_condition, is_item, is_item_of_group, are_one_group, is_clause, is_compound, IsLink, IsQueryAt, IsQuery}
 use Rattle.script_texts.specs.Scripts.{IsStatement, IsScript}
 use Rattle.script_laws.specs.Premises.{HasPlainTypes}
 use Rattle.script_laws.proofs.Tests.{all_made, none_made}
@@ -99,11 +99,14 @@ rows_are s items (k ∷ ks) rows =
 
 fill_query_is : (s : Schema) (table : TableDesign) → IsQuery (fill_query s table)
 unfolding fill_query
-fill_query_is s table =
-    (moved_are s Entering (attributes table.scheme), (refl, copy_named), refl,
-    rows_are s (moved_on s Entering (attributes table.scheme))
-    (members_below (width_of s) (intersection (attributes table.key) (nullable_of s)))
-    (moved_of_rows s Entering (attributes table.scheme)))
+fill_query_is s table = (
+  moved_are s Entering (attributes table.scheme),
+  (refl, copy_named),
+  refl,
+  rows_are s (moved_on s Entering (attributes table.scheme))
+      (members_below (width_of s) (intersection (attributes table.key) (nullable_of s)))
+      (moved_of_rows s Entering (attributes table.scheme)),
+)
 
 fill_is : (s : Schema) (table : TableDesign) → IsStatement (fill s table)
 unfolding fill
@@ -150,10 +153,12 @@ all_names s =
 
 join_is : (s : Schema) (tables : List JoinedTable) (optional : List TableDesign) → IsQuery (join_of s tables optional)
 join_is s [] optional = (all_names s, ([], refl), look_ups_are s optional)
-join_is s (first ∷ tables) optional =
-    (all_names s, table_named first.name,
-    All-append IsLink (links s (attributes first.scheme) tables) (map (look_up s) optional)
-    (links_are s (attributes first.scheme) tables) (look_ups_are s optional))
+join_is s (first ∷ tables) optional = (
+  all_names s,
+  table_named first.name,
+  All-append IsLink (links s (attributes first.scheme) tables) (map (look_up s) optional)
+      (links_are s (attributes first.scheme) tables) (look_ups_are s optional),
+)
 
 view_is : (s : Schema) (tables : List TableDesign) → IsQuery (view_query s tables)
 unfolding view_query
@@ -202,9 +207,22 @@ gained_is s table named = count_is (gained s table) (viewed_rows_are s, table_ro
 
 testing_is : (s : Schema) (table : List ℕ) → IsTableName table → IsScript (testing s table)
 testing_is s table named =
-    All-from_recursion IsStatement (testing s table)
-    ((test_named, refl), (refl, ((test_named, width_is s table named), (refl, ((test_named, lacked_is s table named),
-    ((test_named, gained_is s table named), (test_named, (copy_named, tt))))))))
+    All-from_recursion IsStatement (testing s table) (
+      (test_named, refl),
+      (
+        refl,
+        (
+          (test_named, width_is s table named),
+          (
+            refl,
+            (
+              (test_named, lacked_is s table named),
+              ((test_named, gained_is s table named), (test_named, (copy_named, tt))),
+            ),
+          ),
+        ),
+      ),
+    )
 
 -- ---- the script
 pub work_is : (s : Schema) (table : List ℕ) (tables : List TableDesign) → IsTableName table → All IsName (names_of s)

@@ -1,5 +1,4 @@
 -- What is left to prove of `designs_are_read_back`: what it ensures, by `tables_are` and that a text has one script.
-use Rattle.sql_syntax.specs.Statements.{Statement, script_text}
 use Rattle.script_texts.proofs.Statements.{one_script}
 use Rattle.ddl_text.specs.Ddl.{tables_made}
 use Rattle.script_laws.proofs.Designs.{tables_are}
