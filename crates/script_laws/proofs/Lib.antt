@@ -2,8 +2,11 @@ mod Tests
 mod Numbers
 mod Lines
 mod Columns
+mod Tables
 mod Asked
 mod Checks
 mod Measures
 mod Designs
 mod Migrations
+mod Texts
+mod Remarks

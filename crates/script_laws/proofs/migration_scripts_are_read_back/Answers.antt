@@ -1,8 +1,8 @@
--- What is left to prove of `migrations_are_read_back`: what it ensures, by `migration_is` and that a text has one script.
+-- What is left to prove of `migration_scripts_are_read_back`: what it ensures, by `migration_is` and that a text has one script.
 use Rattle.script_texts.proofs.Statements.{one_script}
 use Rattle.sql_migrate.specs.Script.{migration}
 use Rattle.script_laws.proofs.Migrations.{migration_is}
-use Rattle.script_laws.proofs.migrations_are_read_back.Goals as goal
+use Rattle.script_laws.proofs.migration_scripts_are_read_back.Goals as goal
 
 pub returns : goal.returns
 returns c = record {
