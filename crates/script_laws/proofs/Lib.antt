@@ -10,3 +10,4 @@ mod Designs
 mod Migrations
 mod Texts
 mod Remarks
+mod LaterLines

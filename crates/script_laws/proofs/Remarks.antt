@@ -1,12 +1,12 @@
 -- What is said before the queries of `sql check` and `sql measure` is of one line each, so their scripts are read back.
-use Rattle.std.proofs.Common.{◌≡◌, ◌&&◌, ℕ, Bool, true, false, not, IsTrue, IfSome, Some, None, Option, List, [], ◌∷◌, ◌++◌, map, length, refl, sym, ap, ◌∙◌, inl, inr, zip}
-use Rattle.std.specs.Prelude.{All, codes, decimal, if◌then◌else◌, slice_index_or}
+use Rattle.std.proofs.Common.{◌&&◌, ℕ, not, IfSome, Some, None, Option, List, [], ◌∷◌, ◌++◌, refl, inl, inr}
+use Rattle.std.specs.Prelude.{All, codes, decimal, slice_index_or}
 use Rattle.std.specs.List.{flat_map, range_with_len}
 use Rattle.std.proofs.lemmas.Bool.{cases_Bool}
 use Rattle.std.proofs.lemmas.List.Elements.{All-nil, All-cons, All-head, All-tail, All-append, All-map, All-weaker}
 use Rattle.attr_sets.specs.Attributes.{Attributes}
 use Rattle.dep_model.specs.Dependencies.{Dependency, fd, mvd}
-use Rattle.schema_model.specs.Names.{IsName, is_bare_name, quoted}
+use Rattle.schema_model.specs.Names.{IsName, is_bare_name}
 use Rattle.schema_model.specs.Schemas.{Schema, names_of, naming_of, width_of}
 use Rattle.schema_model.specs.declared.naming.Naming.{Naming}
 use Rattle.schema_model.specs.declared.naming.Naming.TheVariants.{Bare, Any}
@@ -20,10 +20,9 @@ use Rattle.sql_check.specs.Columns.{name_at, type_at, column_at}
 use Rattle.sql_check.specs.Checks.{required_query, integer_query, rules_of, check_query}
 use Rattle.sql_measure.specs.Measures.{measure_query}
 use Rattle.script_texts.specs.Queries.{IsTableName, IsQuery}
-use Rattle.script_texts.specs.Scripts.{is_line, IsStatement, IsScript}
+use Rattle.script_texts.specs.Scripts.{IsStatement, IsScript}
 use Rattle.script_laws.specs.Premises.{HasLaterLines}
 use Rattle.script_laws.specs.Printed.{asked_after, missing_asked, integer_words, integer_asked, rule_words, rule_asked, check_script, measure_script}
-use Rattle.script_laws.proofs.Numbers.{decimal_bare}
 use Rattle.script_laws.proofs.Tests.{all_either}
 use Rattle.script_laws.proofs.Lines.{line_of_plain, decimal_plain, at_position}
 use Rattle.script_laws.proofs.Checks.{required_is, integer_is, rules_are}

@@ -1,8 +1,7 @@
 -- The texts of `sql check` and `sql measure` are those of their scripts.
-use Rattle.std.proofs.Common.{◌≡◌, ℕ, Bool, true, false, Some, None, Option, List, [], ◌∷◌, ◌++◌, refl, sym, ap, ◌∙◌, inl, inr, append_assoc, append-nil}
+use Rattle.std.proofs.Common.{◌≡◌, ℕ, Bool, true, false, Some, None, Option, List, [], ◌∷◌, ◌++◌, refl, sym, ap, ◌∙◌, append_assoc, append-nil}
 use Rattle.std.specs.Prelude.{codes, if◌then◌else◌}
 use Rattle.std.specs.List.{flat_map, range_with_len}
-use Rattle.std.proofs.lemmas.Bool.{cases_Bool}
 use Rattle.std.proofs.lemmas.List.Concat.{flat_map-append}
 use Rattle.dep_model.specs.Dependencies.{Dependency}
 use Rattle.dep_model.specs.Projections.{members_below}
@@ -15,8 +14,8 @@ use Rattle.sql_syntax.specs.Statements.{Statement, remark, ask, statement_text, 
 use Rattle.sql_check.specs.Columns.{name_at, type_at, column_at}
 use Rattle.sql_check.specs.Checks.{required_of, missing_query, missing_among, integer_query, rules_of, check_query}
 use Rattle.sql_measure.specs.Measures.{measure_query}
-use Rattle.sql_scripts.specs.Checking.{check_line, missing_text, integer_check_text, value_text, breaches_text, rule_line, rule_text, rules_text, check_text}
-use Rattle.sql_scripts.specs.Measuring.{measured_rule_text, measured_rules_text, measure_text}
+use Rattle.sql_scripts.specs.Checking.{check_line, missing_text, integer_check_text, value_text, breaches_text, rule_line, rule_text, check_text}
+use Rattle.sql_scripts.specs.Measuring.{measured_rule_text, measure_text}
 use Rattle.script_laws.specs.Printed.{asked_after, missing_asked, integer_words, integer_asked, rule_words, rule_asked, check_script, measure_script}
 
 -- ---- lists

@@ -7,9 +7,12 @@
 //! no type of a column says itself that no value may be missing; so no other script that can be has this text.
 #![tactic(auto)]
 
-ghost use Rattle.std.specs.Prelude.{◌≡◌, ℕ, All, List};
+ghost use Rattle.std.specs.Prelude.{◌≡◌, ◌<◌, ◌^◌, ℕ, All, List, length};
 ghost use Rattle.schema_model.specs.Names.{IsName};
 ghost use Rattle.schema_model.specs.Schemas.{Schema, names_of};
+ghost use Rattle.lexer.specs.Lines.{line_texts, without_mark};
+ghost use Rattle.schema_grammar.specs.Schemas.{MeansSchema};
+ghost use Rattle.schema_grammar.specs.Texts.{declarations_of};
 ghost use Rattle.sql_syntax.specs.Syntax.{Query};
 ghost use Rattle.sql_syntax.specs.Printing.{query_text};
 ghost use Rattle.sql_syntax.specs.Statements.{Statement, script_text};
@@ -68,4 +71,11 @@ pub fn migration_scripts_are_read_back()
     ensures one { (s : Schema) (table : List ℕ) (tables : List TableDesign) (script : List Statement)
         → IsTableName table → All IsName (names_of s) → HasPlainTypes s → IsScript script
         → script_text script ≡ migrate_text s table tables → script ≡ migration s table tables }
+{}
+
+/// Each schema that a text means has names, and those of its rules that may be broken stand after the first line.
+pub fn texts_have_later_lines()
+    ensures names { (text : List ℕ) (s : Schema) → MeansSchema text (declarations_of s) → All IsName (names_of s) }
+    ensures lines { (text : List ℕ) (s : Schema) → MeansSchema text (declarations_of s)
+        → length (line_texts (without_mark text)) < 2 ^ 63 → HasLaterLines s }
 {}
