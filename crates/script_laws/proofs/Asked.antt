@@ -12,7 +12,8 @@ use Rattle.script_texts.proofs.Statements.{one_script}
 asked_is : (q : Query) → IsQuery q → IsScript (ask q ∷ [])
 asked_is q is = All-cons IsStatement (ask q) [] is (All-nil IsStatement)
 
-asked_text : (q other : Query) → query_text q ≡ query_text other → script_text (ask q ∷ []) ≡ script_text (ask other ∷ [])
+asked_text : (q other : Query) → query_text q ≡ query_text other
+    → script_text (ask q ∷ []) ≡ script_text (ask other ∷ [])
 unfolding statement_text
 asked_text q other same = ap (λ (t : List _). (t ++ codes ";\n") ++ []) same
 
@@ -22,4 +23,5 @@ first_asked script = one_row []
 
 pub one_query : (q other : Query) → IsQuery q → IsQuery other → query_text q ≡ query_text other → q ≡ other
 one_query q other is other_is same =
-    ap first_asked (one_script (ask q ∷ []) (ask other ∷ []) (asked_is q is) (asked_is other other_is) (asked_text q other same))
+    ap first_asked (one_script (ask q ∷ []) (ask other ∷ []) (asked_is q is) (asked_is other other_is)
+    (asked_text q other same))

@@ -22,7 +22,8 @@ missing_tests : (s : Schema) (k : ℕ) (ms : List ℕ) → is_condition (some_mi
 missing_tests s k [] = refl
 missing_tests s k (m ∷ ms) = missing_tests s m ms
 
-pub missing_is : (s : Schema) (table : List ℕ) (k : ℕ) (ms : List ℕ) → IsTableName table → IsQuery (missing_query s table k ms)
+pub missing_is : (s : Schema) (table : List ℕ) (k : ℕ) (ms : List ℕ) → IsTableName table
+    → IsQuery (missing_query s table k ms)
 unfolding missing_query
 missing_is s table k ms named = (
   items_are s (codes "r") (universe_of s) refl,
@@ -39,7 +40,8 @@ among_is s table (k ∷ ms) named = missing_is s table k ms named
 pub required_is : (s : Schema) (table : List ℕ) → IsTableName table → IfSome (required_query s table) IsQuery
 required_is s table named = among_is s table (members_below (width_of s) (required_of s)) named
 
-pub integer_is : (table : List ℕ) (c : Column) → IsTableName table → is_column c ≡ true → IsQuery (integer_query table c)
+pub integer_is : (table : List ℕ) (c : Column) → IsTableName table → is_column c ≡ true
+    → IsQuery (integer_query table c)
 unfolding integer_query
 integer_is table c named is = (
   and_from (is_column c) true is refl,
@@ -58,17 +60,21 @@ values_are s table w named is_source =
 pub line_is : (line : ℕ) → is_number line ≡ true → is_item (line_item line) ≡ true
 line_is line numbered = and_from (is_number line) true numbered refl
 
-groups_of_several_are : (s : Schema) (table : List ℕ) (line : ℕ) (x w : Attributes) → IsTableName table → is_number line ≡ true
+groups_of_several_are : (s : Schema) (table : List ℕ) (line : ℕ) (x w : Attributes) → IsTableName table
+    → is_number line ≡ true
     → IsQuery (groups_of_several s table line x w)
 unfolding groups_of_several
 groups_of_several_are s table line x w named numbered = (
-  and_from (is_item (line_item line)) (list_all is_item (items_on s (codes "d") x)) (line_is line numbered) (items_are s (codes "d") x refl),
+  and_from (is_item (line_item line)) (list_all is_item (items_on s (codes "d") x)) (line_is line numbered)
+      (items_are s (codes "d") x refl),
   values_are s table w named true,
   refl,
-  tested_groups (line_item line ∷ items_on s (codes "d") x) (columns_on s (codes "d") x) _ (columns_are s (codes "d") x refl) refl,
+  tested_groups (line_item line ∷ items_on s (codes "d") x) (columns_on s (codes "d") x) _
+      (columns_are s (codes "d") x refl) refl,
 )
 
-count_of_several_is : (s : Schema) (table : List ℕ) (line : ℕ) (w : Attributes) → IsTableName table → is_number line ≡ true
+count_of_several_is : (s : Schema) (table : List ℕ) (line : ℕ) (w : Attributes) → IsTableName table
+    → is_number line ≡ true
     → IsQuery (count_of_several s table line w)
 unfolding count_of_several
 count_of_several_is s table line w named numbered = (
@@ -100,7 +106,8 @@ counted_are s table x w counts named are group = (
       (counts_of_groups s x counts group),
 )
 
-not_joined : (s : Schema) (table : List ℕ) (x w : Attributes) (counts : List Item) → not (is_compound (counts_query s table x w counts)) ≡ true
+not_joined : (s : Schema) (table : List ℕ) (x w : Attributes) (counts : List Item)
+    → not (is_compound (counts_query s table x w counts)) ≡ true
 unfolding counts_query
 not_joined s table x w counts = refl
 
@@ -117,7 +124,8 @@ three_are s table x y z named is_source = (
   not_joined s table x (union x (union y z)) count_of_both,
 )
 
-groups_of_unpaired_are : (s : Schema) (table : List ℕ) (line : ℕ) (x y z : Attributes) → IsTableName table → is_number line ≡ true
+groups_of_unpaired_are : (s : Schema) (table : List ℕ) (line : ℕ) (x y z : Attributes) → IsTableName table
+    → is_number line ≡ true
     → IsQuery (groups_of_unpaired s table line x y z)
 unfolding groups_of_unpaired
 groups_of_unpaired_are s table line x y z named numbered = (
@@ -127,7 +135,8 @@ groups_of_unpaired_are s table line x y z named numbered = (
   tested_groups (line_item line ∷ groups_shown s x) (groups_on s x) _ (groups_are s x) refl,
 )
 
-count_of_unpaired_is : (s : Schema) (table : List ℕ) (line : ℕ) (x y z : Attributes) → IsTableName table → is_number line ≡ true
+count_of_unpaired_is : (s : Schema) (table : List ℕ) (line : ℕ) (x y z : Attributes) → IsTableName table
+    → is_number line ≡ true
     → IsQuery (count_of_unpaired s table line x y z)
 unfolding count_of_unpaired
 count_of_unpaired_is s table line x y z named numbered = (

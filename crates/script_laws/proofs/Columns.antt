@@ -13,16 +13,20 @@ use Rattle.script_laws.proofs.Tests.{all_made, none_made, all_both, any_later}
 use Rattle.script_laws.proofs.Numbers.{numbered_bare}
 
 -- ---- columns under their own names
-pub columns_are : (s : Schema) (alias : List ℕ) (x : Attributes) → is_bare alias ≡ true → list_all is_column (columns_on s alias x) ≡ true
+pub columns_are : (s : Schema) (alias : List ℕ) (x : Attributes) → is_bare alias ≡ true
+    → list_all is_column (columns_on s alias x) ≡ true
 columns_are s alias x bare =
     all_made is_column (column_at s alias) (members_below (width_of s) x) (λ k. and_from (is_bare alias) true bare refl)
 
-pub items_are : (s : Schema) (alias : List ℕ) (x : Attributes) → is_bare alias ≡ true → list_all is_item (items_on s alias x) ≡ true
+pub items_are : (s : Schema) (alias : List ℕ) (x : Attributes) → is_bare alias ≡ true
+    → list_all is_item (items_on s alias x) ≡ true
 items_are s alias x bare =
-    all_made is_item (λ k. own (column_at s alias k)) (members_below (width_of s) x) (λ k. and_from (is_bare alias) true bare refl)
+    all_made is_item (λ k. own (column_at s alias k)) (members_below (width_of s) x)
+    (λ k. and_from (is_bare alias) true bare refl)
 
 pub items_of_rows : (s : Schema) (alias : List ℕ) (x : Attributes) → are_one_group (items_on s alias x) ≡ false
-items_of_rows s alias x = none_made is_item_of_group (λ k. own (column_at s alias k)) (members_below (width_of s) x) (λ k. refl)
+items_of_rows s alias x =
+    none_made is_item_of_group (λ k. own (column_at s alias k)) (members_below (width_of s) x) (λ k. refl)
 
 -- ---- columns that are compared
 pub compared_are : (s : Schema) (x : Attributes) → list_all is_item (compared_on s x) ≡ true
@@ -38,7 +42,8 @@ made_are s x =
     (λ k. numbered_bare (count_below x k + 1))
 
 pub groups_are : (s : Schema) (x : Attributes) → list_all is_column (groups_on s x) ≡ true
-groups_are s x = all_made is_column (group_at x) (members_below (width_of s) x) (λ k. numbered_bare (count_below x k + 1))
+groups_are s x =
+    all_made is_column (group_at x) (members_below (width_of s) x) (λ k. numbered_bare (count_below x k + 1))
 
 pub shown_are : (s : Schema) (x : Attributes) → list_all is_item (groups_shown s x) ≡ true
 shown_are s x =

@@ -55,7 +55,8 @@ scale_is scale within =
 scale_within : (scale : ℕ) → is_column_type (Decimal scale) ≡ true → scale < 10
 scale_within scale is = let within = leb-true scale 9 is in omega (arith, within)
 
-type_is : (column : ColumnType) → is_column_type column ≡ true → leaves_missing column ≡ true → is_plain_type (sql_type column) ≡ true
+type_is : (column : ColumnType) → is_column_type column ≡ true → leaves_missing column ≡ true
+    → is_plain_type (sql_type column) ≡ true
 type_is Text is leaves = refl
 type_is Integer is leaves = refl
 type_is Date is leaves = refl
@@ -64,7 +65,8 @@ type_is (Decimal scale) is leaves = scale_is scale (scale_within scale is)
 type_is Uuid is leaves = refl
 type_is (Other text) is leaves =
     let parts = and_parts _ (list_all is_type_byte text) is in
-    and_from (is_line text) (not (ends_with text (codes " NOT NULL"))) (line_of_plain text (type_plain text parts.1)) leaves
+    and_from (is_line text) (not (ends_with text (codes " NOT NULL")))
+    (line_of_plain text (type_plain text parts.1)) leaves
 
 abbrev PrintsPlain : ColumnType → Type 0
 PrintsPlain column = is_plain_type (sql_type column) ≡ true
@@ -80,7 +82,8 @@ type_at_is s plain k = at_position PrintsPlain (types_of s) Text refl (both_hold
 columns_are : (s : Schema) (table : TableDesign) → HasPlainTypes s → All IsElement (columns_made s table)
 columns_are s table plain =
     let nullable : Attributes = difference (nullable_of s) (attributes table.key) in
-    all_of IsElement (column_made s nullable) (members_below (width_of s) (attributes table.scheme)) (λ k. (refl, type_at_is s plain k))
+    all_of IsElement (column_made s nullable) (members_below (width_of s) (attributes table.scheme))
+    (λ k. (refl, type_at_is s plain k))
 
 key_is : (s : Schema) (key : Attributes) → All IsElement (key_made s key)
 key_is s key =
@@ -88,12 +91,15 @@ key_is s key =
     (All-cons IsElement (primary_key (attribute_names s key)) [] (names_are s key) (All-nil IsElement))
 
 uniques_are : (s : Schema) (keys : List Attributes) → All IsElement (uniques_made s keys)
-uniques_are s keys = all_of IsElement (λ key. unique_key (attribute_names s key)) (stated_keys s keys) (λ key. names_are s key)
+uniques_are s keys =
+    all_of IsElement (λ key. unique_key (attribute_names s key)) (stated_keys s keys) (λ key. names_are s key)
 
-references_are : (s : Schema) (tables : List TableDesign) (table : TableDesign) → All IsElement (references_made s tables table)
+references_are : (s : Schema) (tables : List TableDesign) (table : TableDesign)
+    → All IsElement (references_made s tables table)
 references_are s tables table =
     all_of IsElement (λ j. reference_made s (slice_index_or tables j table)) table.refs.items
-    (λ j. (names_are s (attributes (slice_index_or tables j table).key), table_named (slice_index_or tables j table).name))
+    (λ j. let other : TableDesign = slice_index_or tables j table in
+    (names_are s (attributes other.key), table_named other.name))
 
 elements_are : (s : Schema) (tables : List TableDesign) (table : TableDesign) → HasPlainTypes s
     → All IsElement (elements_made s tables table)
@@ -113,7 +119,8 @@ listed_plain (name ∷ names) all =
     plain_both (quoted_name name) (flat_map (λ n. separator ++ name_text n) (map attribute names))
     (quoted_plain name (All-head IsPlain name names all)) (later_plain names (All-tail IsPlain name names all))
   where
-    later_plain : (others : List (List ℕ)) → All IsPlain others → IsPlain (flat_map (λ n. separator ++ name_text n) (map attribute others))
+    later_plain : (others : List (List ℕ)) → All IsPlain others
+        → IsPlain (flat_map (λ n. separator ++ name_text n) (map attribute others))
     later_plain [] each = refl
     later_plain (other ∷ others) each =
         plain_both (separator ++ quoted_name other) (flat_map (λ n. separator ++ name_text n) (map attribute others))
@@ -130,12 +137,15 @@ words_are s key names =
     let listed = names_text (attribute_names s key) in
     let last = codes ") is left out: missing values are not compared" in
     line_of_plain (left_out_words s key)
-    (plain_both (codes "UNIQUE (" ++ listed) last (plain_both (codes "UNIQUE (") listed refl (names_plain s key names)) refl)
+    (plain_both (codes "UNIQUE (" ++ listed) last
+    (plain_both (codes "UNIQUE (") listed refl (names_plain s key names)) refl)
 
 one_line : (words : List ℕ) → is_line words ≡ true → All (λ (said : List ℕ). IsTrue (is_line said)) (words ∷ [])
-one_line words is = All-cons (λ (said : List ℕ). IsTrue (is_line said)) words [] is (All-nil (λ (said : List ℕ). IsTrue (is_line said)))
+one_line words is =
+    All-cons (λ (said : List ℕ). IsTrue (is_line said)) words [] is (All-nil (λ (said : List ℕ). IsTrue (is_line said)))
 
-said_is : (s : Schema) (table : TableDesign) → All IsName (names_of s) → All (λ (said : List ℕ). IsTrue (is_line said)) (said_of s table)
+said_is : (s : Schema) (table : TableDesign) → All IsName (names_of s)
+    → All (λ (said : List ℕ). IsTrue (is_line said)) (said_of s table)
 said_is s table names =
     let L : List ℕ → Type 0 = λ (said : List ℕ). IsTrue (is_line said) in
     let left : List Attributes = left_out_keys s (known_keys table.other_keys) in
@@ -144,7 +154,8 @@ said_is s table names =
     (if is_some table.other_keys then map (left_out_words s) left else unknown)
     (one_line (codes "at most one row") refl)
     (all_either L (is_some table.other_keys) (map (left_out_words s) left) unknown
-    (all_of L (left_out_words s) left (λ key. words_are s key names)) (one_line (codes "further keys are not looked for") refl))
+    (all_of L (left_out_words s) left (λ key. words_are s key names))
+    (one_line (codes "further keys are not looked for") refl))
 
 -- ---- tables
 table_is : (s : Schema) (tables : List TableDesign) (table : TableDesign) → All IsName (names_of s) → HasPlainTypes s

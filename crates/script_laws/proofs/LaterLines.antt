@@ -1,5 +1,5 @@
--- In a schema that a text means each dependency that may be broken stands after the first line: before it no name is declared,
--- so a dependency of the first line has no names.
+-- In a schema that a text means each dependency that may be broken stands after the first line: no name is declared
+-- before that line, so its dependency has none.
 use Rattle.std.proofs.Common.{◌≡◌, ◌<◌, ◌≤◌, ◌+◌, ◌^◌, ◌⊎◌, ℕ, true, None, IsSome, Option, List, [], ◌∷◌, ◌++◌, length, zip, refl, sym, ap, subst, ◌∙◌, inl, inr, arith, length-append}
 use Rattle.std.specs.Prelude.{All, is_some}
 use Rattle.std.proofs.lemmas.Bool.{and_from, lt-ltb, false≢true}
@@ -12,10 +12,10 @@ use Rattle.relation_queries.specs.Queries.{breaches_of}
 use Rattle.relation_queries.specs.Queries as terms
 use Rattle.lexer.specs.Lines.{line_texts, without_mark}
 use Rattle.lexer.specs.Tokens.{Mark}
-use Rattle.schema_grammar.specs.Declarations.{Declarations, no_declaration}
+use Rattle.schema_grammar.specs.Declarations.{Declarations, add_nullable, no_declaration}
 use Rattle.schema_grammar.specs.Grammar.{dependency_of_sign}
 use Rattle.schema_grammar.specs.LineTokens.{naming_in}
-use Rattle.schema_grammar.specs.Meanings.{IsAttribute, IsSide, IsDependency}
+use Rattle.schema_grammar.specs.Meanings.{attributes_of_words, IsAttribute, IsSide, IsDependency}
 use Rattle.schema_grammar.specs.Schemas.{DeclareNames, MeansTextLine, MeansLines, IsPlainText, IsVersionedText, MeansSchema}
 use Rattle.schema_grammar.specs.Texts.{declarations_of}
 use Rattle.schema_grammar.specs.declared.format.Format.{Format}
@@ -78,16 +78,20 @@ record HasSame (d whole : Declarations) : Type 0 where
   pub lines : whole.lines ≡ d.lines
   pub deps : whole.deps ≡ d.deps
 
+same_of : (d next whole : Declarations) → HasSame d next → whole ≡ next → HasSame d whole
+same_of d next whole same is = subst (HasSame d) (sym is) same
+
 kept_later : (n : ℕ) (d whole : Declarations) → HasSame d whole → StandLater n d → StandLater n whole
 kept_later n d whole same is = record {
-  long = ap (λ (ls : List ℕ). length ls) same.lines ∙ is.long ∙ sym (ap (λ (ds : List Dependency). length ds) same.deps);
+  long = ap (λ (ls : List ℕ). length ls) same.lines ∙ is.long
+      ∙ sym (ap (λ (ds : List Dependency). length ds) same.deps);
   later = subst (λ (ls : List ℕ). AllLater n ls whole.deps) (sym same.lines)
       (subst (λ (ds : List Dependency). AllLater n d.lines ds) (sym same.deps) is.later);
 }
 
 declaring_keeps : (f : Format) (column : ColumnType) (d : Declarations) (ms : List Mark) (whole : Declarations)
     → DeclareNames f column d ms whole → HasSame d whole
-declaring_keeps f column d [] whole is = record { lines = ap (λ (e : Declarations). e.lines) is; deps = ap (λ (e : Declarations). e.deps) is }
+declaring_keeps f column d [] whole is = same_of d d whole (record { lines = refl; deps = refl }) is
 declaring_keeps f column d (m ∷ ms) whole is =
     let kept = declaring_keeps f column _ ms whole is.1 in
     record { lines = kept.lines; deps = kept.deps }
@@ -96,31 +100,38 @@ declaring_keeps f column d (m ∷ ms) whole is =
 abbrev IsReady : ℕ → Declarations → Type 0
 IsReady number d = (1 < number) ⊎ (d.names ≡ [])
 
-dependency_later : (n : ℕ) (f : Format) (number : ℕ) (d : Declarations) (ms : List Mark) (dep : Dependency) → number < 2 ^ 64
+dependency_later : (n : ℕ) (f : Format) (number : ℕ) (d : Declarations) (ms : List Mark) (dep : Dependency)
+    → number < 2 ^ 64
     → IsReady number d → IsDependency f d.names ms dep → StandsLater n number dep
 dependency_later n f number d ms dep small (inl second) is some =
     and_from _ _ (lt-ltb 1 number second) (lt-ltb number (2 ^ 64) small)
 dependency_later n f number d ms dep small (inr nothing) is some =
-    absurd (false≢true (sym (ap (λ (found : Option terms.TableQuery). is_some found) (never_broken n f ms dep (subst (λ (names : List (List ℕ)). IsDependency f names ms dep) nothing is))) ∙ some))
+    let without : IsDependency f [] ms dep =
+    subst (λ (names : List (List ℕ)). IsDependency f names ms dep) nothing is in
+    let none_found = ap (λ (found : Option terms.TableQuery). is_some found) (never_broken n f ms dep without) in
+    absurd (false≢true (sym none_found ∙ some))
 
-line_later : (n : ℕ) (f : Format) (number : ℕ) (d : Declarations) (line : List ℕ) (next : Declarations) → number < 2 ^ 64
+line_later : (n : ℕ) (f : Format) (number : ℕ) (d : Declarations) (line : List ℕ) (next : Declarations)
+    → number < 2 ^ 64
     → IsReady number d → MeansTextLine f number d line next → StandLater n d → StandLater n next
 line_later n f number d line next small ready (inl (inl blank)) is =
-    kept_later n d next (record { lines = ap (λ (e : Declarations). e.lines) blank.same; deps = ap (λ (e : Declarations). e.deps) blank.same }) is
+    kept_later n d next (same_of d d next (record { lines = refl; deps = refl }) blank.same) is
 line_later n f number d line next small ready (inl (inr declares)) is =
     kept_later n d next (declaring_keeps f declares.column d declares.words next declares.names) is
 line_later n f number d line next small ready (inr (inl allows)) is =
-    kept_later n d next (record { lines = ap (λ (e : Declarations). e.lines) allows.adds; deps = ap (λ (e : Declarations). e.deps) allows.adds }) is
+    let more : Declarations = add_nullable d (attributes_of_words d.names allows.words) in
+    kept_later n d next (same_of d more next (record { lines = refl; deps = refl }) allows.adds) is
 line_later n f number d line next small ready (inr (inr states)) is =
     subst (StandLater n) (sym states.adds) (record {
-      long = length-append d.lines (number ∷ []) ∙ ap (λ (k : ℕ). k + 1) is.long ∙ sym (length-append d.deps (states.dep ∷ []));
+      long = length-append d.lines (number ∷ []) ∙ ap (λ (k : ℕ). k + 1) is.long
+          ∙ sym (length-append d.deps (states.dep ∷ []));
       later = one_more n d.lines d.deps number states.dep is.long is.later
           (dependency_later n f number d (states.head ∷ states.others) states.dep small ready states.dependency);
     })
 
 lines_later : (n : ℕ) (f : Format) (number : ℕ) (d : Declarations) (lines : List (List ℕ)) (whole : Declarations)
-    → 1 ≤ number → number + length lines < 2 ^ 64 → IsReady number d → MeansLines f number d lines whole → StandLater n d
-    → StandLater n whole
+    → 1 ≤ number → number + length lines < 2 ^ 64 → IsReady number d → MeansLines f number d lines whole
+    → StandLater n d → StandLater n whole
 lines_later n f number d [] whole first small ready means is = subst (StandLater n) (sym means) is
 lines_later n f number d (line ∷ lines) whole first small ready (next, this, rest) is =
     lines_later n f (number + 1) next lines whole (omega arith) (omega (arith, small)) (inl (omega (arith, first))) rest
@@ -133,15 +144,20 @@ nothing_later n f = record { long = refl; later = All-nil (λ (rule : ℕ × Dep
 text_later : (n : ℕ) (lines : List (List ℕ)) (whole : Declarations) → length lines < 2 ^ 63
     → IsPlainText lines whole ⊎ IsVersionedText lines whole → StandLater n whole
 text_later n lines whole small (inl plain) =
-    lines_later n format.Plain 1 (no_declaration (naming_in format.Plain)) lines whole (omega arith) (omega (arith, small)) (inr refl) plain.declared
+    lines_later n format.Plain 1 (no_declaration (naming_in format.Plain)) lines whole (omega arith)
+    (omega (arith, small)) (inr refl) plain.declared
     (nothing_later n format.Plain)
 text_later n lines whole small (inr versioned) =
     let long : length lines ≡ length versioned.before + length (versioned.version ∷ versioned.later) =
-    ap (λ (ls : List (List ℕ)). length ls) versioned.cut ∙ length-append versioned.before (versioned.version ∷ versioned.later) in
-    lines_later n versioned.format (length versioned.before + 2) (no_declaration (naming_in versioned.format)) versioned.later whole
+    ap (λ (ls : List (List ℕ)). length ls) versioned.cut
+    ∙ length-append versioned.before (versioned.version ∷ versioned.later) in
+    lines_later n versioned.format (length versioned.before + 2)
+    (no_declaration (naming_in versioned.format)) versioned.later whole
     (omega arith) (omega (arith, small, long)) (inr refl) versioned.declared (nothing_later n versioned.format)
 
-pub later_lines : (text : List ℕ) (s : Schema) → MeansSchema text (declarations_of s) → length (line_texts (without_mark text)) < 2 ^ 63
+pub later_lines : (text : List ℕ) (s : Schema) → MeansSchema text (declarations_of s)
+    → length (line_texts (without_mark text)) < 2 ^ 63
     → HasLaterLines s
 later_lines text s means small =
-    let stand = text_later (width_of s) (line_texts (without_mark text)) (declarations_of s) small means.lines in stand.later
+    let lines : List (List ℕ) = line_texts (without_mark text) in
+    let stand = text_later (width_of s) lines (declarations_of s) small means.lines in stand.later

@@ -42,7 +42,8 @@ type_plain (b ∷ bytes) are =
 
 -- ---- lists
 -- what holds of each member, and of what stands in place of one, holds of what stands at a position
-pub at_position : {X : Type 0} (P : X → Type 0) (xs : List X) (other : X) → P other → All P xs → (k : ℕ) → P (slice_index_or xs k other)
+pub at_position : {X : Type 0} (P : X → Type 0) (xs : List X) (other : X) → P other → All P xs → (k : ℕ)
+    → P (slice_index_or xs k other)
 at_position P [] other own all k = own
 at_position P (x ∷ xs) other own all zero = All-head P x xs all
 at_position P (x ∷ xs) other own all (suc k) = at_position P xs other own (All-tail P x xs all) k

@@ -12,7 +12,7 @@ use Rattle.schema_model.specs.Names.{IsName, quotes_doubled}
 use Rattle.schema_model.specs.Schemas.{Schema, names_of, width_of, universe_of, nullable_of}
 use Rattle.schema_printer.specs.Printing.{is_integer, members_from}
 use Rattle.sql_syntax.specs.Names.{attribute_names, quoted_name, is_not_empty}
-use Rattle.sql_syntax.specs.Syntax.{attribute, missing_value, Item, Link, by_columns, crosswise, Query}
+use Rattle.sql_syntax.specs.Syntax.{ColumnName, Scalar, attribute, missing_value, Item, Link, by_columns, crosswise, Query}
 use Rattle.sql_syntax.specs.Statements.{Statement, begin, commit, create_from, create_view}
 use Rattle.sql_check.specs.Columns.{name_at, type_at}
 use Rattle.ddl_text.specs.Ddl.{is_empty, tables_made}
@@ -53,11 +53,13 @@ copied_of_row false name = refl
 
 copied_are : (s : Schema) (x : Attributes) → list_all is_item (copied_on s x) ≡ true
 copied_are s x =
-    all_made is_item (copied_at s) (members_below (width_of s) x) (λ k. copied_is (is_plain_type (type_at s k)) (name_at s k))
+    all_made is_item (copied_at s) (members_below (width_of s) x)
+    (λ k. copied_is (is_plain_type (type_at s k)) (name_at s k))
 
 copied_of_rows : (s : Schema) (x : Attributes) → are_one_group (copied_on s x) ≡ false
 copied_of_rows s x =
-    none_made is_item_of_group (copied_at s) (members_below (width_of s) x) (λ k. copied_of_row (is_plain_type (type_at s k)) (name_at s k))
+    none_made is_item_of_group (copied_at s) (members_below (width_of s) x)
+    (λ k. copied_of_row (is_plain_type (type_at s k)) (name_at s k))
 
 copy_is : (s : Schema) (table : List ℕ) → IsTableName table → IsQuery (copy_query s table)
 unfolding copy_query
@@ -76,7 +78,8 @@ moved_of_row Returning name of_integer = refl
 
 moved_are : (s : Schema) (move : Move) (x : Attributes) → list_all is_item (moved_on s move x) ≡ true
 moved_are s move x =
-    all_made is_item (moved_at s move) (members_below (width_of s) x) (λ k. moved_is move (name_at s k) (is_integer (type_at s k)))
+    all_made is_item (moved_at s move) (members_below (width_of s) x)
+    (λ k. moved_is move (name_at s k) (is_integer (type_at s k)))
 
 moved_of_rows : (s : Schema) (move : Move) (x : Attributes) → are_one_group (moved_on s move x) ≡ false
 moved_of_rows s move x =
@@ -92,10 +95,12 @@ is_condition_of_tests : (s : Schema) (k : ℕ) (ks : List ℕ) → is_condition 
 is_condition_of_tests s k [] = refl
 is_condition_of_tests s k (j ∷ ks) = values_are s j ks
 
-rows_are : (s : Schema) (items : List Item) (ks : List ℕ) → are_one_group items ≡ false → is_clause items (rows_with s ks) ≡ true
+rows_are : (s : Schema) (items : List Item) (ks : List ℕ) → are_one_group items ≡ false
+    → is_clause items (rows_with s ks) ≡ true
 rows_are s items [] rows = ap not rows
 rows_are s items (k ∷ ks) rows =
-    and_from (is_condition (have_values s k ks)) (not (are_one_group items)) (is_condition_of_tests s k ks) (ap not rows)
+    and_from (is_condition (have_values s k ks)) (not (are_one_group items)) (is_condition_of_tests s k ks)
+    (ap not rows)
 
 fill_query_is : (s : Schema) (table : TableDesign) → IsQuery (fill_query s table)
 unfolding fill_query
@@ -119,7 +124,8 @@ either_link false one other first second = second
 
 link_is : (s : Schema) (shared : Attributes) (table : JoinedTable) → IsLink (link s shared table)
 link_is s shared table =
-    either_link (is_empty shared) (crosswise (quoted_name table.name)) (by_columns (quoted_name table.name) (attribute_names s shared))
+    either_link (is_empty shared) (crosswise (quoted_name table.name))
+    (by_columns (quoted_name table.name) (attribute_names s shared))
     (table_named table.name) (table_named table.name, names_are s shared)
 
 links_are : (s : Schema) (seen : Attributes) (tables : List JoinedTable) → All IsLink (links s seen tables)
@@ -132,21 +138,30 @@ links_are s seen (table ∷ tables) =
 look_ups_are : (s : Schema) (tables : List TableDesign) → All IsLink (map (look_up s) tables)
 look_ups_are s tables =
     All-map IsLink (look_up s) tables
-    (λ k d within. (table_named (slice_index_or tables k d).name, names_are s (attributes (slice_index_or tables k d).key)))
+    (λ k d within. (
+      table_named (slice_index_or tables k d).name,
+      names_are s (attributes (slice_index_or tables k d).key),
+    ))
 
 -- a schema has an attribute, so a user's table has a column
-first_named : (x : Attributes) (names : List (List ℕ)) → x 0 ≡ true → 0 < length names → is_not_empty (map attribute (members_from x 0 names)) ≡ true
+first_named : (x : Attributes) (names : List (List ℕ)) → x 0 ≡ true → 0 < length names
+    → is_not_empty (map attribute (members_from x 0 names)) ≡ true
 first_named x [] first some = absurd (omega (arith, some))
 first_named x (name ∷ names) first some =
-    ap (λ (b : Bool). is_not_empty (map attribute (if b then name ∷ members_from x 1 names else members_from x 1 names))) first
+    ap (λ (b : Bool). is_not_empty
+    (map attribute (if b then name ∷ members_from x 1 names else members_from x 1 names))) first
 
 some_names : (s : Schema) → is_not_empty (attribute_names s (universe_of s)) ≡ true
-some_names s = first_named (universe_of s) (names_of s) (lt-ltb 0 (width_of s) s.valid.names_not_empty) s.valid.names_not_empty
+some_names s =
+    first_named (universe_of s) (names_of s) (lt-ltb 0 (width_of s) s.valid.names_not_empty) s.valid.names_not_empty
 
 users_names : (s : Schema) (x : Attributes) → list_all is_user_name (attribute_names s x) ≡ true
 users_names s x = all_made is_user_name attribute (members_from x 0 (names_of s)) (λ name. refl)
 
-all_names : (s : Schema) → (is_not_empty (attribute_names s (universe_of s)) && list_all is_user_name (attribute_names s (universe_of s))) ≡ true
+abbrev are_names : List ColumnName → Bool
+are_names names = is_not_empty names && list_all is_user_name names
+
+all_names : (s : Schema) → are_names (attribute_names s (universe_of s)) ≡ true
 all_names s =
     and_from (is_not_empty (attribute_names s (universe_of s))) (list_all is_user_name (attribute_names s (universe_of s)))
     (some_names s) (users_names s (universe_of s))
@@ -165,7 +180,10 @@ unfolding view_query
 view_is s tables = join_is s (view_order (joined_tables (filled_tables s tables))) (looked_up_tables s tables)
 
 -- ---- the test
-missing_are : (n : ℕ) → 0 < n → (is_not_empty (replicate n missing_value) && list_all is_constant (replicate n missing_value)) ≡ true
+abbrev are_constants : List Scalar → Bool
+are_constants values = is_not_empty values && list_all is_constant values
+
+missing_are : (n : ℕ) → 0 < n → are_constants (replicate n missing_value) ≡ true
 missing_are zero some = absurd (omega (arith, some))
 missing_are (suc n) some = constants n
   where
@@ -180,12 +198,17 @@ width_is s table named =
 
 table_rows_are : (s : Schema) (table : List ℕ) → IsTableName table → IsQuery (table_rows s table)
 unfolding table_rows
-table_rows_are s table named = (compared_are s (universe_of s), (refl, named), refl, ap not (compared_of_rows s (universe_of s)))
+table_rows_are s table named =
+    (compared_are s (universe_of s), (refl, named), refl, ap not (compared_of_rows s (universe_of s)))
 
 viewed_rows_are : (s : Schema) → IsQuery (viewed_rows s)
 unfolding viewed_rows
-viewed_rows_are s =
-    (moved_are s Returning (universe_of s), (refl, view_named), refl, ap not (moved_of_rows s Returning (universe_of s)))
+viewed_rows_are s = (
+  moved_are s Returning (universe_of s),
+  (refl, view_named),
+  refl,
+  ap not (moved_of_rows s Returning (universe_of s)),
+)
 
 table_rows_alone : (s : Schema) (table : List ℕ) → not (is_compound (table_rows s table)) ≡ true
 unfolding table_rows
@@ -200,10 +223,12 @@ unfolding count_of
 count_is q is = (refl, is, refl, refl)
 
 lacked_is : (s : Schema) (table : List ℕ) → IsTableName table → IsQuery (count_of (lacked s table))
-lacked_is s table named = count_is (lacked s table) (table_rows_are s table named, viewed_rows_are s, viewed_rows_alone s)
+lacked_is s table named =
+    count_is (lacked s table) (table_rows_are s table named, viewed_rows_are s, viewed_rows_alone s)
 
 gained_is : (s : Schema) (table : List ℕ) → IsTableName table → IsQuery (count_of (gained s table))
-gained_is s table named = count_is (gained s table) (viewed_rows_are s, table_rows_are s table named, table_rows_alone s table)
+gained_is s table named =
+    count_is (gained s table) (viewed_rows_are s, table_rows_are s table named, table_rows_alone s table)
 
 testing_is : (s : Schema) (table : List ℕ) → IsTableName table → IsScript (testing s table)
 testing_is s table named =
@@ -236,7 +261,8 @@ work_is s table tables named names plain =
     (All-map IsStatement (fill s) tables (λ k d within. fill_is s (slice_index_or tables k d)))
     (All-cons IsStatement view (testing s table) (view_named, view_is s tables) (testing_is s table named))))
 
-pub migration_is : (s : Schema) (table : List ℕ) (tables : List TableDesign) → IsTableName table → All IsName (names_of s)
+pub migration_is : (s : Schema) (table : List ℕ) (tables : List TableDesign) → IsTableName table
+    → All IsName (names_of s)
     → HasPlainTypes s → IsScript (migration s table tables)
 migration_is s table tables named names plain =
     All-cons IsStatement _ (begin ∷ (work s table tables ++ commit ∷ [])) refl

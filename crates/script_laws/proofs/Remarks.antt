@@ -22,7 +22,7 @@ use Rattle.sql_measure.specs.Measures.{measure_query}
 use Rattle.script_texts.specs.Queries.{IsTableName, IsQuery}
 use Rattle.script_texts.specs.Scripts.{IsStatement, IsScript}
 use Rattle.script_laws.specs.Premises.{HasLaterLines}
-use Rattle.script_laws.specs.Printed.{asked_after, missing_asked, integer_words, integer_asked, rule_words, rule_asked, check_script, measure_script}
+use Rattle.script_laws.specs.Printed.{asked_after, missing_asked, integer_words, integer_asked, rule_words, rule_asked, checked_rule, measured_rule, check_script, measure_script}
 use Rattle.script_laws.proofs.Tests.{all_either}
 use Rattle.script_laws.proofs.Lines.{line_of_plain, decimal_plain, at_position}
 use Rattle.script_laws.proofs.Checks.{required_is, integer_is, rules_are}
@@ -44,18 +44,21 @@ printed_plain : (s : Schema) → All IsName (names_of s) → All IsPlain (printe
 unfolding printed_names_of
 printed_plain s names =
     All-map IsPlain (spelling (naming_of s)) (names_of s)
-    (All-weaker IsPlain (λ name. IsPlain (spelling (naming_of s) name)) (spelled_plain (naming_of s)) (names_of s) (names_plain s names))
+    (All-weaker IsPlain (λ name. IsPlain (spelling (naming_of s) name)) (spelled_plain (naming_of s)) (names_of s)
+    (names_plain s names))
 
 -- ---- dependencies
 words_plain : (words : List (List ℕ)) → All IsPlain words → IsPlain (words_text words)
 words_plain [] all = refl
 words_plain (word ∷ words) all =
-    plain_both (32 ∷ word) (words_text words) (All-head IsPlain word words all) (words_plain words (All-tail IsPlain word words all))
+    plain_both (32 ∷ word) (words_text words) (All-head IsPlain word words all)
+    (words_plain words (All-tail IsPlain word words all))
 
 side_plain : (words : List (List ℕ)) → All IsPlain words → IsPlain (side_text words)
 side_plain [] all = refl
 side_plain (word ∷ words) all =
-    plain_both word (words_text words) (All-head IsPlain word words all) (words_plain words (All-tail IsPlain word words all))
+    plain_both word (words_text words) (All-head IsPlain word words all)
+    (words_plain words (All-tail IsPlain word words all))
 
 set_plain : (names : List (List ℕ)) (x : Attributes) → All IsPlain names → IsPlain (set_text names x)
 unfolding set_text
@@ -74,33 +77,41 @@ rule_plain : (s : Schema) (line : ℕ) (d : Dependency) → All IsName (names_of
 rule_plain s line d names =
     let printed : List ℕ = dependency_text (printed_names_of s) d in
     plain_both (codes "line " ++ decimal line ++ codes ": ") printed
-    (plain_both (codes "line " ++ decimal line) (codes ": ") (plain_both (codes "line ") (decimal line) refl (decimal_plain line)) refl)
+    (plain_both (codes "line " ++ decimal line) (codes ": ")
+    (plain_both (codes "line ") (decimal line) refl (decimal_plain line)) refl)
     (dependency_plain (printed_names_of s) d (printed_plain s names))
 
 -- ---- statements
-after_is : (words : List ℕ) (found : Option Query) → IsPlain words → IfSome found IsQuery → IsScript (asked_after words found)
+after_is : (words : List ℕ) (found : Option Query) → IsPlain words → IfSome found IsQuery
+    → IsScript (asked_after words found)
 after_is words None plain is = All-nil IsStatement
 after_is words (Some q) plain is =
-    All-cons IsStatement (remark words) (ask q ∷ []) (line_of_plain words plain) (All-cons IsStatement (ask q) [] is (All-nil IsStatement))
+    All-cons IsStatement (remark words) (ask q ∷ []) (line_of_plain words plain)
+    (All-cons IsStatement (ask q) [] is (All-nil IsStatement))
 
-rule_is : (words : List ℕ) (found : Option Query) → IsPlain words → IfSome found IsQuery → IsScript (rule_asked words found)
+rule_is : (words : List ℕ) (found : Option Query) → IsPlain words → IfSome found IsQuery
+    → IsScript (rule_asked words found)
 rule_is words None plain is =
     All-cons IsStatement (remark (words ++ codes " holds always")) []
-    (line_of_plain (words ++ codes " holds always") (plain_both words (codes " holds always") plain refl)) (All-nil IsStatement)
+    (line_of_plain (words ++ codes " holds always") (plain_both words (codes " holds always") plain refl))
+    (All-nil IsStatement)
 rule_is words (Some q) plain is = after_is words (Some q) plain is
 
-integer_asked_is : (s : Schema) (table : List ℕ) (k : ℕ) → IsTableName table → All IsName (names_of s) → IsScript (integer_asked s table k)
+integer_asked_is : (s : Schema) (table : List ℕ) (k : ℕ) → IsTableName table → All IsName (names_of s)
+    → IsScript (integer_asked s table k)
 integer_asked_is s table k named names =
     let words : List ℕ = integer_words s k in
     let asked : Query = integer_query table (column_at s (codes "r") k) in
     let plain : IsPlain words =
     plain_both (spelling (naming_of s) (name_at s k)) (codes " is an integer")
-    (spelled_plain (naming_of s) (name_at s k) (at_position IsPlain (names_of s) [] refl (names_plain s names) k)) refl in
+    (spelled_plain (naming_of s) (name_at s k) (at_position IsPlain (names_of s) [] refl (names_plain s names) k))
+    refl in
     all_either IsStatement (is_integer (type_at s k)) (asked_after words (Some asked)) []
     (after_is words (Some asked) plain (integer_is table (column_at s (codes "r") k) named refl)) (All-nil IsStatement)
 
 -- ---- scripts
-each_is : {X : Type 0} (make : X → List Statement) (xs : List X) → All (λ x. IsScript (make x)) xs → IsScript (flat_map make xs)
+each_is : {X : Type 0} (make : X → List Statement) (xs : List X) → All (λ x. IsScript (make x)) xs
+    → IsScript (flat_map make xs)
 each_is make [] all = All-nil IsStatement
 each_is make (x ∷ xs) all =
     All-append IsStatement (make x) (flat_map make xs) (All-head (λ y. IsScript (make y)) x xs all)
@@ -109,23 +120,26 @@ each_is make (x ∷ xs) all =
 pub check_script_is : (s : Schema) (table : List ℕ) → IsTableName table → All IsName (names_of s) → HasLaterLines s
     → IsScript (check_script s table)
 check_script_is s table named names later =
-    let asked = λ (rule : ℕ × Dependency). rule_asked (rule_words s rule.0 rule.1) (check_query s table rule.0 rule.1) in
     let opening : Statement = remark (codes "where all rules hold, no query gives a row") in
     let integers : List Statement = flat_map (integer_asked s table) (range_with_len 0 (width_of s)) in
-    All-append IsStatement ((opening ∷ missing_asked s table) ++ integers) (flat_map asked (rules_of s))
+    All-append IsStatement ((opening ∷ missing_asked s table) ++ integers) (flat_map (checked_rule s table) (rules_of s))
     (All-append IsStatement (opening ∷ missing_asked s table) integers
     (All-cons IsStatement opening (missing_asked s table) refl
     (after_is (codes "no value is missing") (required_query s table) refl (required_is s table named)))
-    (each_is (integer_asked s table) (range_with_len 0 (width_of s)) (λ k d within. integer_asked_is s table _ named names)))
-    (each_is asked (rules_of s)
-    (All-weaker (λ rule. IfSome (check_query s table rule.0 rule.1) IsQuery) (λ rule. IsScript (asked rule))
-    (λ rule is. rule_is (rule_words s rule.0 rule.1) (check_query s table rule.0 rule.1) (rule_plain s rule.0 rule.1 names) is)
+    (each_is (integer_asked s table) (range_with_len 0 (width_of s))
+    (λ k d within. integer_asked_is s table (slice_index_or (range_with_len 0 (width_of s)) k d) named names)))
+    (each_is (checked_rule s table) (rules_of s)
+    (All-weaker (λ (rule : ℕ × Dependency). IfSome (check_query s table rule.0 rule.1) IsQuery)
+    (λ (rule : ℕ × Dependency). IsScript (checked_rule s table rule))
+    (λ rule is.
+    rule_is (rule_words s rule.0 rule.1) (check_query s table rule.0 rule.1) (rule_plain s rule.0 rule.1 names) is)
     (rules_of s) (rules_are s table named later)))
 
-pub measure_script_is : (s : Schema) (table : List ℕ) → IsTableName table → All IsName (names_of s) → IsScript (measure_script s table)
+pub measure_script_is : (s : Schema) (table : List ℕ) → IsTableName table → All IsName (names_of s)
+    → IsScript (measure_script s table)
 measure_script_is s table named names =
-    let asked = λ (rule : ℕ × Dependency). rule_asked (rule_words s rule.0 rule.1) (measure_query s table rule.1) in
-    All-cons IsStatement _ (flat_map asked (rules_of s)) refl
-    (each_is asked (rules_of s) (λ k d within.
+    All-cons IsStatement _ (flat_map (measured_rule s table) (rules_of s)) refl
+    (each_is (measured_rule s table) (rules_of s) (λ k d within.
     let rule : ℕ × Dependency = slice_index_or (rules_of s) k d in
-    rule_is (rule_words s rule.0 rule.1) (measure_query s table rule.1) (rule_plain s rule.0 rule.1 names) (measure_is s table rule.1 named)))
+    rule_is (rule_words s rule.0 rule.1) (measure_query s table rule.1) (rule_plain s rule.0 rule.1 names)
+    (measure_is s table rule.1 named)))

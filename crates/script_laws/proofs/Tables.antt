@@ -8,10 +8,12 @@ use Rattle.table_words.specs.Parts.{Part, table_parts}
 use Rattle.script_texts.specs.Queries.{IsTableName}
 use Rattle.sql_scripts.specs.Naming.{dotted_name, quoted_table}
 
-dotted_is : (parts : List Part) → dotted_name parts ≡ join_by quoted (codes ".") (map (λ (part : Part). part.name) parts)
+dotted_is : (parts : List Part)
+    → dotted_name parts ≡ join_by quoted (codes ".") (map (λ (part : Part). part.name) parts)
 dotted_is [] = refl
 dotted_is (part ∷ parts) =
-    ap (λ (t : List ℕ). quoted part.name ++ t) (sym (flat_map-map (λ name. codes "." ++ quoted name) (λ (p : Part). p.name) parts))
+    ap (λ (t : List ℕ). quoted part.name ++ t)
+    (sym (flat_map-map (λ name. codes "." ++ quoted name) (λ (p : Part). p.name) parts))
 
 pub table_of_word : (word : List ℕ) → IsTableName (quoted_table word)
 unfolding quoted_table

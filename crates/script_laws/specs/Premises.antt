@@ -16,8 +16,8 @@ leaves_missing column = true
 abbrev pub HasPlainTypes : Schema → Type 0
 HasPlainTypes s = All (λ column. IsTrue (leaves_missing column)) (types_of s)
 
--- each dependency that a relation may break stands in a line whose number is 2 or more, of 64 bits: a dependency of line 1 has
--- no names
+-- each dependency that a relation may break stands in a line whose number is 2 or more, of 64 bits; one that stands in
+-- line 1 has no names
 abbrev pub HasLaterLines : Schema → Type 0
 HasLaterLines s =
     All (λ rule. IsSome (breaches_of (width_of s) rule.1) → IsTrue (is_number rule.0)) (rules_of s)

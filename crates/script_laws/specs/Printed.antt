@@ -40,16 +40,22 @@ abbrev pub rule_asked : List ℕ → Option Query → List Statement
 rule_asked words None = remark (words ++ codes " holds always") ∷ []
 rule_asked words (Some q) = asked_after words (Some q)
 
+abbrev pub checked_rule : Schema → List ℕ → ℕ × Dependency → List Statement
+checked_rule s table rule = rule_asked (rule_words s rule.0 rule.1) (check_query s table rule.0 rule.1)
+
+abbrev pub measured_rule : Schema → List ℕ → ℕ × Dependency → List Statement
+measured_rule s table rule = rule_asked (rule_words s rule.0 rule.1) (measure_query s table rule.1)
+
 -- ---- scripts
 abbrev pub check_script : Schema → List ℕ → List Statement
 check_script s table =
     (remark (codes "where all rules hold, no query gives a row") ∷ missing_asked s table)
     ++ flat_map (integer_asked s table) (range_with_len 0 (width_of s))
-    ++ flat_map (λ rule. rule_asked (rule_words s rule.0 rule.1) (check_query s table rule.0 rule.1)) (rules_of s)
+    ++ flat_map (checked_rule s table) (rules_of s)
 
 abbrev pub measure_script : Schema → List ℕ → List Statement
 measure_script s table =
     remark
     (codes "where a rule is broken, its query gives one row: broken groups, rows in them, "
     ++ codes "and how many must change or are missing")
-    ∷ flat_map (λ rule. rule_asked (rule_words s rule.0 rule.1) (measure_query s table rule.1)) (rules_of s)
+    ∷ flat_map (measured_rule s table) (rules_of s)

@@ -3,8 +3,9 @@
 //! Each law is a function that does nothing, whose clauses are the law; so the gate asks for its
 //! proof.
 //!
-//! Promises: what `sql check`, `sql measure`, `ddl` and `sql migrate` print is the text of a script that can be read back, where
-//! no type of a column says itself that no value may be missing; so no other script that can be has this text.
+//! Promises: what `sql check`, `sql measure`, `ddl` and `sql migrate` print is the text of a script
+//! that can be read back, and of no other: of the latter two where no type of a column says itself
+//! that no value may be missing.
 #![tactic(auto)]
 
 ghost use Rattle.std.specs.Prelude.{◌≡◌, ◌<◌, ◌^◌, ℕ, All, List, length};
@@ -28,15 +29,15 @@ ghost use Rattle.sql_scripts.specs.Naming.{quoted_table};
 ghost use Rattle.script_laws.specs.Premises.{HasPlainTypes, HasLaterLines};
 ghost use Rattle.script_laws.specs.Printed.{check_script, measure_script};
 
-/// Two queries that can be read back have one text only where they are one, and each word that a script has as a table is
-/// the name of one.
+/// Two queries that can be read back have one text only where they are one. The word that names a user's table has in a
+/// script the text of a name that can be read back.
 pub fn texts_determine_queries()
     ensures queries { (q other : Query) → IsQuery q → IsQuery other → query_text q ≡ query_text other → q ≡ other }
     ensures tables { (word : List ℕ) → IsTableName (quoted_table word) }
 {}
 
-/// What `sql check` prints is the text of a script that can be read back, where the rules that may be broken stand after
-/// the first line, and of no other.
+/// What `sql check` prints is the text of a script that can be read back, and of no other, where the rules that may be
+/// broken stand after the first line.
 pub fn check_scripts_are_read_back()
     ensures text { (s : Schema) (table : List ℕ) → check_text s table ≡ script_text (check_script s table) }
     ensures back { (s : Schema) (table : List ℕ) → IsTableName table → All IsName (names_of s) → HasLaterLines s
@@ -54,8 +55,8 @@ pub fn measure_scripts_are_read_back()
         → IsScript script → script_text script ≡ measure_text s table → script ≡ measure_script s table }
 {}
 
-/// The statements of a design are a script that can be read back, where no type of a column says itself that no value may
-/// be missing, and no other has their text.
+/// What `ddl` prints is the text of such a script, and of no other, where no type of a column says itself that no value
+/// may be missing.
 pub fn design_scripts_are_read_back()
     ensures back { (s : Schema) (tables : List TableDesign) → All IsName (names_of s) → HasPlainTypes s
         → IsScript (tables_made s tables tables) }
@@ -64,7 +65,7 @@ pub fn design_scripts_are_read_back()
         → script ≡ tables_made s tables tables }
 {}
 
-/// So are those of `sql migrate`.
+/// So is what `sql migrate` prints.
 pub fn migration_scripts_are_read_back()
     ensures back { (s : Schema) (table : List ℕ) (tables : List TableDesign) → IsTableName table
         → All IsName (names_of s) → HasPlainTypes s → IsScript (migration s table tables) }

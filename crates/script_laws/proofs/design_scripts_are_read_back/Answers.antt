@@ -1,4 +1,5 @@
--- What is left to prove of `design_scripts_are_read_back`: what it ensures, by `tables_are` and that a text has one script.
+-- What is left to prove of `design_scripts_are_read_back`: what it ensures, by `tables_are` and that a text has one
+-- script.
 use Rattle.script_texts.proofs.Statements.{one_script}
 use Rattle.ddl_text.specs.Ddl.{tables_made}
 use Rattle.script_laws.proofs.Designs.{tables_are}

@@ -1,4 +1,5 @@
--- What is left to prove of `measure_scripts_are_read_back`: what it ensures, by the lemmas on the text of the script and on
+-- What is left to prove of `measure_scripts_are_read_back`: what it ensures, by the lemmas on the text of the script
+-- and on
 -- its statements, and that a text has one script.
 use Rattle.std.proofs.Common.{◌∙◌}
 use Rattle.script_texts.proofs.Statements.{one_script}
@@ -12,5 +13,6 @@ returns c = record {
   text = measure_text_is;
   back = measure_script_is;
   one = λ s table script named names is same.
-      one_script script (measure_script s table) is (measure_script_is s table named names) (same ∙ measure_text_is s table);
+      one_script script (measure_script s table) is (measure_script_is s table named names) (same
+      ∙ measure_text_is s table);
 }

@@ -1,4 +1,5 @@
--- What is left to prove of `migration_scripts_are_read_back`: what it ensures, by `migration_is` and that a text has one script.
+-- What is left to prove of `migration_scripts_are_read_back`: what it ensures, by `migration_is` and that a text has
+-- one script.
 use Rattle.script_texts.proofs.Statements.{one_script}
 use Rattle.sql_migrate.specs.Script.{migration}
 use Rattle.script_laws.proofs.Migrations.{migration_is}
