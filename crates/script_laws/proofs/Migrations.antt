@@ -163,8 +163,8 @@ are_names names = is_not_empty names && list_all is_user_name names
 
 all_names : (s : Schema) → are_names (attribute_names s (universe_of s)) ≡ true
 all_names s =
-    and_from (is_not_empty (attribute_names s (universe_of s))) (list_all is_user_name (attribute_names s (universe_of s)))
-    (some_names s) (users_names s (universe_of s))
+    let names : List ColumnName = attribute_names s (universe_of s) in
+    and_from (is_not_empty names) (list_all is_user_name names) (some_names s) (users_names s (universe_of s))
 
 join_is : (s : Schema) (tables : List JoinedTable) (optional : List TableDesign) → IsQuery (join_of s tables optional)
 join_is s [] optional = (all_names s, ([], refl), look_ups_are s optional)

@@ -122,7 +122,8 @@ pub check_script_is : (s : Schema) (table : List ℕ) → IsTableName table → 
 check_script_is s table named names later =
     let opening : Statement = remark (codes "where all rules hold, no query gives a row") in
     let integers : List Statement = flat_map (integer_asked s table) (range_with_len 0 (width_of s)) in
-    All-append IsStatement ((opening ∷ missing_asked s table) ++ integers) (flat_map (checked_rule s table) (rules_of s))
+    let rules : List Statement = flat_map (checked_rule s table) (rules_of s) in
+    All-append IsStatement ((opening ∷ missing_asked s table) ++ integers) rules
     (All-append IsStatement (opening ∷ missing_asked s table) integers
     (All-cons IsStatement opening (missing_asked s table) refl
     (after_is (codes "no value is missing") (required_query s table) refl (required_is s table named)))

@@ -1,4 +1,5 @@
--- What a schema has whose scripts are read back from their texts: for the laws of what is printed.
+-- What a schema has whose scripts are read back from their texts: for the laws of what is printed. `Desk` does not cite
+-- it.
 use Rattle.std.specs.Prelude.{Bool, true, not, IsTrue, IsSome, All, codes}
 use Rattle.schema_model.specs.declared.column_type.ColumnType.{ColumnType}
 use Rattle.schema_model.specs.declared.column_type.ColumnType.TheVariants.{Other}

@@ -1,4 +1,4 @@
--- The scripts of `sql check` and `sql measure` as statements: for the laws of what is printed.
+-- The scripts of `sql check` and `sql measure` as statements: for the laws of what is printed. `Desk` does not cite it.
 use Rattle.std.specs.Prelude.{ℕ, if◌then◌else◌, Option, Some, None, List, [], ◌∷◌, ◌++◌, codes}
 use Rattle.std.specs.Fmt.{decimal}
 use Rattle.std.specs.List.{flat_map, range_with_len}
