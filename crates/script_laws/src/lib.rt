@@ -29,11 +29,9 @@ ghost use Rattle.sql_scripts.specs.Naming.{quoted_table};
 ghost use Rattle.script_laws.specs.Premises.{HasPlainTypes, HasLaterLines};
 ghost use Rattle.script_laws.specs.Printed.{check_script, measure_script};
 
-/// Two queries that can be read back have one text only where they are one. The word that names a user's table has in a
-/// script the text of a name that can be read back.
+/// Two queries that can be read back have one text only where they are one.
 pub fn texts_determine_queries()
-    ensures queries { (q other : Query) → IsQuery q → IsQuery other → query_text q ≡ query_text other → q ≡ other }
-    ensures tables { (word : List ℕ) → IsTableName (quoted_table word) }
+    ensures law { (q other : Query) → IsQuery q → IsQuery other → query_text q ≡ query_text other → q ≡ other }
 {}
 
 /// What `sql check` prints is the text of a script that can be read back, and of no other, where the rules that may be
@@ -74,9 +72,11 @@ pub fn migration_scripts_are_read_back()
         → script_text script ≡ migrate_text s table tables → script ≡ migration s table tables }
 {}
 
-/// Each schema that a text means has names, and those of its rules that may be broken stand after the first line.
-pub fn texts_have_later_lines()
+/// What these laws ask holds of what a command reads: in each schema that a text means names are names, and the rules that
+/// may be broken stand after the first line; and the word for a user's table has in a script the text of a name.
+pub fn inputs_fit_scripts()
     ensures names { (text : List ℕ) (s : Schema) → MeansSchema text (declarations_of s) → All IsName (names_of s) }
     ensures lines { (text : List ℕ) (s : Schema) → MeansSchema text (declarations_of s)
         → length (line_texts (without_mark text)) < 2 ^ 63 → HasLaterLines s }
+    ensures tables { (word : List ℕ) → IsTableName (quoted_table word) }
 {}
