@@ -73,10 +73,11 @@ fn small_rules_of(
     small_dependencies(alloc, hashing, width, most, rows)
 }
 
-// The most attributes on the left for which no larger set is tried. Which way is taken is a matter of speed alone.
+// The most attributes on the left with which they are sought as those that nearly hold are, so that no larger set is
+// tried. Which way is taken is a matter of speed alone.
 const FEW_ON_THE_LEFT: u8 = 1;
 
-// The same of few columns: with few attributes on the left what holds but for no row, else those of all.
+// The same of few columns: with few attributes on the left as what nearly holds where no row may go, else from all sets.
 fn rules_of_few_columns(
     alloc: Global,
     hashing: Hashing,
