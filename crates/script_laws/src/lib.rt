@@ -72,8 +72,8 @@ pub fn migration_scripts_are_read_back()
         → script_text script ≡ migrate_text s table tables → script ≡ migration s table tables }
 {}
 
-/// What these laws ask holds of what a command reads: in each schema that a text means names are names, and the rules that
-/// may be broken stand after the first line; and the word for a user's table has in a script the text of a name.
+/// What these laws ask holds of what a command reads: in each schema that a text means names are names, and the rules
+/// that may be broken stand after the first line; and the word for a user's table has in a script the text of a name.
 pub fn inputs_fit_scripts()
     ensures names { (text : List ℕ) (s : Schema) → MeansSchema text (declarations_of s) → All IsName (names_of s) }
     ensures lines { (text : List ℕ) (s : Schema) → MeansSchema text (declarations_of s)

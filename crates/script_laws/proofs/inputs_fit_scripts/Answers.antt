@@ -1,4 +1,5 @@
--- What is left to prove of `inputs_fit_scripts`: what it ensures, by `declared_are_names`, `later_lines` and `table_of_word`.
+-- What is left to prove of `inputs_fit_scripts`: what it ensures, by `declared_are_names`, `later_lines` and
+-- `table_of_word`.
 use Rattle.schema_grammar.specs.Texts.{declarations_of}
 use Rattle.schema_grammar.proofs.DeclaredNames.{declared_are_names}
 use Rattle.script_laws.proofs.LaterLines.{later_lines}
