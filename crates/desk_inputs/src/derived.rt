@@ -1,4 +1,4 @@
-ghost use Rattle.std.specs.Prelude.{◌≡◌, ◌≤◌, ◌∷◌, [], OnOk, IfOk, IfErr};
+ghost use Rattle.std.specs.Prelude.{IfOk};
 ghost use Rattle.schema_model.specs.Schemas.{universe_of};
 ghost use Rattle.schema_printer.specs.Spelling.{printed_names_of};
 ghost use Rattle.proof_grammar.specs.Diagnostics.{line_diagnostic_of, IsRefusalWithin};
@@ -6,11 +6,8 @@ ghost use Rattle.derivation_grammar.specs.Meanings.{IsDerivation};
 ghost use Rattle.derivation_text.specs.Views.{derivation_lines_of};
 ghost use Rattle.desk_responses.specs.ResponseValues.{Says};
 ghost use Rattle.desk_refusals.specs.ProofTexts.{derivation_refusal_text};
-ghost use Rattle.desk_outside.specs.Begun.{Begins};
-ghost use Rattle.desk_inputs.specs.FilesBegun.{BeginsFront};
-ghost use Rattle.desk_inputs.specs.FileKinds.{FileStops, IsFile};
+ghost use Rattle.desk_inputs.specs.FileCalls.{OpensFile};
 ghost use Rattle.desk_inputs.specs.Inputs.{derivation_file};
-ghost use Rattle.desk_inputs.specs.Readings.{Reading, files_in, Shows};
 ghost use Rattle.desk_responses.specs.Responses.{ExitsAs};
 
 use crate::read::open_file;
@@ -31,17 +28,10 @@ pub fn open_derivation<F: FileSource>(
     schema: &Schema,
     name: &Argument,
 ) -> Result<Vec<DerivationLine>, EarlyExit>
-    ensures files { F.files source.new ≡ F.files source.old }
-    ensures later { F.faults source.old ≤ F.faults source.new }
-    ensures begins { OnOk result (Begins name.now (F.begun source.old) (F.begun source.new)) }
-    ensures reads { BeginsFront (name.now ∷ []) (F.begun source.old) (F.begun source.new) }
-    ensures ok { (r : Reading) → files_in r ≡ F.files source.old
-        → IfOk result
-        (λ lines. IsFile (derivation_file schema.now) r name.now (derivation_lines_of lines.items)) }
+    ensures opens { OpensFile F.FileSource source.old source.new (derivation_file schema.now) name.now
+        (λ lines. derivation_lines_of lines.items) result }
     ensures derivation { IfOk result
         (λ lines. IsDerivation schema.now (derivation_lines_of lines.items)) }
-    ensures exit { (r : Reading) → Shows F.files F.faults F.taken F.begun source.old source.new r
-        → IfErr result (ExitsAs (FileStops (derivation_file schema.now) r name.now)) }
 {
     let bytes = match open_file(alloc, source, name, MOST_PROOF_BYTES) {
         Ok(bytes) => bytes,
