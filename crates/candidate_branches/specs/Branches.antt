@@ -1,6 +1,7 @@
 -- The search for the candidates of given evidence by branches: sets with the evidence that holds them, and that which
 -- lacks one member. For the functions below `candidates_of`. `Desk` does not cite it.
-use Rattle.std.specs.Prelude.{◌≡◌, ℕ, ◌+◌, ◌^◌, ◌<◌, ◌⊎◌, ◌++◌, Bool, true, false, not, List, [], ◌∷◌, filter, All, AllPairs, Any, Contains}
+use Rattle.std.specs.Prelude.{◌≡◌, ℕ, ◌+◌, ◌^◌, ◌<◌, ◌⊎◌, ◌++◌, Bool, true, false, not, List, [], ◌∷◌, filter, All}
+use Rattle.std.specs.Prelude.{AllPairs, Any, Contains}
 use Rattle.attr_sets.specs.Attributes.{Attributes, IsBefore, IsSubset, below, count_below, difference, only, union}
 use Rattle.attr_sets.specs.Sets.{attributes}
 use Rattle.attr_sets.specs.declared.set.AttrSet.{AttrSet}

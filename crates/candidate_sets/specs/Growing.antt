@@ -1,6 +1,7 @@
 -- Which sets a step keeps, which it grows, and what they grow to. For the functions below
 -- `add_evidence`. `Desk` does not cite it.
-use Rattle.std.specs.Prelude.{◌≡◌, ◌≢◌, ◌+◌, ◌++◌, ◌^◌, ◌<◌, ◌&&◌, ℕ, Bool, true, not, List, [], ◌∷◌, length, All, AllPairs, Any, Contains, nat_lt}
+use Rattle.std.specs.Prelude.{◌≡◌, ◌≢◌, ◌+◌, ◌++◌, ◌^◌, ◌<◌, ◌&&◌, ℕ, Bool, true, not, List, [], ◌∷◌, length, All}
+use Rattle.std.specs.Prelude.{AllPairs, Any, Contains, nat_lt}
 use Rattle.attr_sets.specs.Attributes.{Attributes, only, union, IsSubset, count_below}
 use Rattle.attr_sets.specs.declared.set.AttrSet.{AttrSet}
 use Rattle.attr_sets.specs.declared.set.TheConstants.{MOST_ATTRIBUTES}

@@ -1,4 +1,5 @@
-ghost use Rattle.std.specs.Prelude.{◌≡◌, ◌≢◌, ℕ, ◌<◌, ◌≤◌, ◌↔◌, true, false, List, [], ◌∷◌, length, All, AllPairs, Contains};
+ghost use Rattle.std.specs.Prelude.{◌≡◌, ◌≢◌, ℕ, ◌<◌, ◌≤◌, ◌↔◌, true, false, List, [], ◌∷◌, length, All, AllPairs};
+ghost use Rattle.std.specs.Prelude.{Contains};
 ghost use Rattle.attr_sets.specs.Attributes.{Attributes, below, none, only, IsSubset, count_below};
 ghost use Rattle.dep_model.specs.Dependencies.{ObeysFd};
 ghost use Rattle.dep_model.specs.Tuples.{Tuple, Relation, IsOver, AgreeOn, value_at};

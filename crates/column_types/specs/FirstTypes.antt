@@ -4,7 +4,8 @@ use Rattle.attr_sets.specs.Attributes.{Attributes, IsSubset, below}
 use Rattle.column_values.specs.Values.{FitsColumn}
 use Rattle.dep_model.specs.Tuples.{Relation, value_at}
 use Rattle.schema_model.specs.declared.column_type.ColumnType.{ColumnType}
-use Rattle.schema_model.specs.declared.column_type.ColumnType.TheVariants.{Text, Integer, Date, Timestamp, Decimal, Uuid}
+use Rattle.schema_model.specs.declared.column_type.ColumnType.TheVariants.{Text, Integer, Date, Timestamp, Decimal}
+use Rattle.schema_model.specs.declared.column_type.ColumnType.TheVariants.{Uuid}
 use Rattle.row_store.specs.Rows.{row_at}
 
 -- the types that are tried, in this order

@@ -1,7 +1,8 @@
 ghost use Rattle.std.specs.Prelude.{◌≡◌, ◌<◌, ◌≤◌, ◌^◌, false, length, map, All, IfOk};
 ghost use Rattle.attr_sets.specs.Attributes.{IsSubset, below};
 ghost use Rattle.attr_sets.specs.Sets.{attributes};
-ghost use Rattle.csv_migrate.specs.Migration.{JoinIs, ReadsBack, column_names, nullable_columns, tables_of_migration, schemes_in, table_of};
+ghost use Rattle.csv_migrate.specs.Migration.{JoinIs, ReadsBack, column_names, nullable_columns, tables_of_migration};
+ghost use Rattle.csv_migrate.specs.Migration.{schemes_in, table_of};
 ghost use Rattle.named_tables.specs.Choices.{HasRows};
 ghost use Rattle.named_tables.specs.Tables.{chosen_value, chosen_values, table_values};
 ghost use Rattle.optional_tables.specs.Homes.{is_optional};

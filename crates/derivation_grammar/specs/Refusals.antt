@@ -8,13 +8,15 @@ use Rattle.schema_model.specs.declared.naming.Naming.{Naming}
 use Rattle.lexer.specs.Lines.{line_texts, without_mark}
 use Rattle.schema_grammar.specs.declared.refusal.SchemaRefusal.{SchemaRefusal}
 use Rattle.proof_grammar.specs.declared.refusal.ProofRefusal.{ProofRefusal}
-use Rattle.proof_grammar.specs.Diagnostics.{Diagnostic, LineDiagnostic, bad_line, wrong_number, no_such_line, too_many_lines, empty_proof, line_diagnostic_of}
+use Rattle.proof_grammar.specs.Diagnostics.{Diagnostic, LineDiagnostic, bad_line, wrong_number, no_such_line}
+use Rattle.proof_grammar.specs.Diagnostics.{too_many_lines, empty_proof, line_diagnostic_of}
 use Rattle.proof_grammar.specs.Meanings.{certificate_lines_of, certificate_lines}
 use Rattle.proof_grammar.specs.Refusals.{StandsAt}
 use Rattle.proof_grammar.specs.Wrongs.{rank}
 use Rattle.derivation_grammar.specs.LineDiagnostics.{RefusesDerivationLine}
 use Rattle.derivation_grammar.specs.Lines.{DerivationLine}
-use Rattle.derivation_grammar.specs.Meanings.{MeansDerivationLine, MeanDerivationLines, premises_of, IsEarlier, AreInTurn}
+use Rattle.derivation_grammar.specs.Meanings.{MeansDerivationLine, MeanDerivationLines, premises_of, IsEarlier}
+use Rattle.derivation_grammar.specs.Meanings.{AreInTurn}
 
 -- ---- at a line
 -- what is wrong with a line after so many others

@@ -1,6 +1,7 @@
 -- A derivation read from left to right: for the reader of derivations and the laws that tie it to the
 -- meaning. `Desk` does not cite it.
-use Rattle.std.specs.Prelude.{ℕ, ◌+◌, ◌-◌, ◌==◌, Bool, true, false, not, ◌&&◌, if◌then◌else◌, nat_le, List, [], ◌∷◌, ◌++◌, length, Result, Ok, Err}
+use Rattle.std.specs.Prelude.{ℕ, ◌+◌, ◌-◌, ◌==◌, Bool, true, false, not, ◌&&◌, if◌then◌else◌, nat_le, List, [], ◌∷◌}
+use Rattle.std.specs.Prelude.{◌++◌, length, Result, Ok, Err}
 use Rattle.std.specs.List.{list_all}
 use Rattle.schema_model.specs.Schemas.{Schema}
 use Rattle.schema_model.specs.Schemas.{names_of, naming_of}
@@ -12,7 +13,8 @@ use Rattle.schema_grammar.specs.Rests.{rest_from, ◌>>=◌}
 use Rattle.proof_grammar.specs.declared.line_kind.LineKind.{LineKind}
 use Rattle.proof_grammar.specs.declared.line_kind.LineKind.TheVariants.{Blank, Opening, Certificate}
 use Rattle.proof_grammar.specs.CheckerStates.{diagnostic_at}
-use Rattle.proof_grammar.specs.Diagnostics.{Diagnostic, LineDiagnostic, wrong_number, no_such_line, too_many_lines, empty_proof}
+use Rattle.proof_grammar.specs.Diagnostics.{Diagnostic, LineDiagnostic, wrong_number, no_such_line, too_many_lines}
+use Rattle.proof_grammar.specs.Diagnostics.{empty_proof}
 use Rattle.proof_grammar.specs.Texts.{line_kind, in_line, at_line}
 use Rattle.derivation_grammar.specs.Lines.{DerivationBody, DerivationLine, derivation_line}
 use Rattle.derivation_grammar.specs.Meanings.{premises_of}

@@ -17,8 +17,6 @@ mod line_rule;
 
 pub use derivation::MOST_NODES;
 pub use laws::{
-    certificate_is_derivation, derivation_reading, derivation_refusal, derived_is_implied,
-    derives_by_lines, each_line_is_implied, line_meaning, line_refusal, one_outcome,
-    read_or_refused,
+    derivations_are_read_or_refused, derived_lines_are_implied, lines_are_read_or_refused,
 };
 pub use line_rule::LineRule;

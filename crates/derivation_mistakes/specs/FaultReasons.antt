@@ -12,7 +12,9 @@ use Rattle.derivation_rules.specs.FurtherRules as further
 use Rattle.derivation_grammar.specs.Derivations.{stated_at}
 use Rattle.derivation_grammar.specs.Lines.{DerivationBody, by_rule, by_decomposition, by_further}
 use Rattle.derivation_mistakes.specs.declared.misuse.Misuse.{Misuse}
-use Rattle.derivation_mistakes.specs.declared.misuse.Misuse.TheVariants.{AnotherKind, NotTheLeftSide, LeftSidesDiffer, NotWithinLeftSide, AnotherLeftSide, NotWithinRightSide, Fault}
+use Rattle.derivation_mistakes.specs.declared.misuse.Misuse.TheVariants.{AnotherKind, NotTheLeftSide, LeftSidesDiffer}
+use Rattle.derivation_mistakes.specs.declared.misuse.Misuse.TheVariants.{NotWithinLeftSide, AnotherLeftSide}
+use Rattle.derivation_mistakes.specs.declared.misuse.Misuse.TheVariants.{NotWithinRightSide, Fault}
 
 -- the second of two premises where the first states a dependency of this kind, else the first
 abbrev pub second_if : Bool → ℕ → ℕ → Misuse

@@ -4,13 +4,16 @@ use Rattle.attr_sets.specs.Sets.{is_same, is_subset}
 use Rattle.schema_model.specs.Schemas.{Schema}
 use Rattle.dep_model.specs.Dependencies.{Dependency, is_fd, left_of, right_of}
 use Rattle.derivation.specs.declared.fault.FaultKind.{FaultKind}
-use Rattle.derivation.specs.Trees.{augmentation, complementation, maugmentation, replication, transitivity, mtransitivity, coalescence}
+use Rattle.derivation.specs.Trees.{augmentation, complementation, maugmentation, replication, transitivity}
+use Rattle.derivation.specs.Trees.{mtransitivity, coalescence}
 use Rattle.proof_grammar.specs.Lines.{by_step, by_pair}
 use Rattle.derivation_rules.specs.FurtherRules as further
 use Rattle.derivation_grammar.specs.Derivations.{stated_at, outcome_of_line}
 use Rattle.derivation_grammar.specs.Lines.{DerivationBody, by_rule, by_decomposition, by_further}
 use Rattle.derivation_mistakes.specs.declared.misuse.Misuse.{Misuse}
-use Rattle.derivation_mistakes.specs.declared.misuse.Misuse.TheVariants.{AnotherKind, NotTheLeftSide, LeftSidesDiffer, NotWithinLeftSide, AnotherLeftSide, NotWithinRightSide, Fault}
+use Rattle.derivation_mistakes.specs.declared.misuse.Misuse.TheVariants.{AnotherKind, NotTheLeftSide, LeftSidesDiffer}
+use Rattle.derivation_mistakes.specs.declared.misuse.Misuse.TheVariants.{NotWithinLeftSide, AnotherLeftSide}
+use Rattle.derivation_mistakes.specs.declared.misuse.Misuse.TheVariants.{NotWithinRightSide, Fault}
 
 -- ---- the kinds of premises
 -- whether a line states a functional dependency

@@ -7,7 +7,8 @@ ghost use Rattle.derivation_grammar.specs.Lines.{DerivationLine as Declared};
 ghost use Rattle.derivation_grammar.specs.Meanings.{IsDerivation, IsEarlier, premises_of};
 ghost use Rattle.derivation_text.specs.Views.{body_of_line, derivation_line_of, derivation_lines_of};
 ghost use Rattle.derivation_mistakes.specs.Mistakes.{AreMistakenLines, IsMistake, IsMistakenLine, IsRight};
-ghost use Rattle.derivation_mistakes.specs.Views.{mistake_of, mistaken_line_of, mistaken_lines_of, IsMistakenLineOf, IsMistakeWithin};
+ghost use Rattle.derivation_mistakes.specs.Views.{mistake_of, mistaken_line_of, mistaken_lines_of, IsMistakenLineOf};
+ghost use Rattle.derivation_mistakes.specs.Views.{IsMistakeWithin};
 
 use crate::misusing::misuse_of;
 use crate::outcome::outcome_of_line;

@@ -18,6 +18,6 @@ mod misusing;
 mod outcome;
 
 pub use judging::mistaken_lines;
-pub use laws::{derives_without_mistakes, one_list_of_mistaken_lines, one_mistake};
+pub use laws::mistakes_are_exact;
 pub use mistake::{Mistake, MistakenLine};
 pub use misuse::Misuse;

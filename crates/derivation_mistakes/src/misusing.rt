@@ -5,7 +5,9 @@ ghost use Rattle.derivation.specs.Derivs.{pair_of};
 ghost use Rattle.derivation_rules.specs.Views.{further_of};
 ghost use Rattle.derivation_grammar.specs.Derivations.{outcome_of_line};
 ghost use Rattle.derivation_text.specs.Views.{body_of_line};
-ghost use Rattle.derivation_mistakes.specs.FaultReasons.{is_functional_at, is_multivalued_at, misuse_of, pair_misuse, part_misuse, further_misuse, second_if, side_misuse, sides_misuse, step_misuse, takes_first, takes_first_of};
+ghost use Rattle.derivation_mistakes.specs.FaultReasons.{is_functional_at, is_multivalued_at, misuse_of, pair_misuse};
+ghost use Rattle.derivation_mistakes.specs.FaultReasons.{part_misuse, further_misuse, second_if, side_misuse};
+ghost use Rattle.derivation_mistakes.specs.FaultReasons.{sides_misuse, step_misuse, takes_first, takes_first_of};
 ghost use Rattle.derivation_mistakes.specs.Misuses.{IsMisuse};
 
 use crate::Misuse;

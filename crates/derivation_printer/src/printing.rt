@@ -5,7 +5,9 @@ ghost use Rattle.derivation_rules.specs.Views.{further_of};
 ghost use Rattle.schema_printer.specs.Spelling.{printed_names_of};
 ghost use Rattle.short_derivations.specs.Inferences.{AreGiven};
 ghost use Rattle.short_derivations.specs.Views.{why_of, line_of, lines_of};
-ghost use Rattle.derivation_printer.specs.Printing.{body_of, numbered, further_word, derivation_body_text, derivation_line_text, derivation_text, NumbersFit, IsDerivationBodyWithin, IsLineWithin};
+ghost use Rattle.derivation_printer.specs.Printing.{body_of, numbered, further_word, derivation_body_text};
+ghost use Rattle.derivation_printer.specs.Printing.{derivation_line_text, derivation_text, NumbersFit};
+ghost use Rattle.derivation_printer.specs.Printing.{IsDerivationBodyWithin, IsLineWithin};
 
 use byte_texts::{add, add_number};
 use dep_model::OutOfMemory;

@@ -5,7 +5,9 @@ use Rattle.std.specs.List.{flat_map, list_all}
 use Rattle.attr_sets.specs.Attributes.{only}
 use Rattle.cover_accounts.specs.CoverDiagnostics.{AreCoverDiagnostics}
 use Rattle.cover_accounts.specs.declared.diagnostic.CoverDiagnostic.{CoverDiagnostic}
-use Rattle.cover_accounts.specs.declared.diagnostic.CoverDiagnostic.TheVariants.{SeveralOnRight, SameLeft, NotNeededOnLeft, NotNeededOnRight, Follows}
+use Rattle.cover_accounts.specs.declared.diagnostic.CoverDiagnostic.TheVariants.{SeveralOnRight, SameLeft}
+use Rattle.cover_accounts.specs.declared.diagnostic.CoverDiagnostic.TheVariants.{NotNeededOnLeft, NotNeededOnRight}
+use Rattle.cover_accounts.specs.declared.diagnostic.CoverDiagnostic.TheVariants.{Follows}
 use Rattle.cover_accounts.specs.declared.diagnostic.CoverForm.{CoverForm}
 use Rattle.cover_accounts.specs.declared.diagnostic.CoverForm.TheVariants.{Minimal, Canonical}
 use Rattle.dep_model.specs.Dependencies.{is_fd}

@@ -1,7 +1,9 @@
 ghost use Rattle.std.specs.Prelude.{◌≡◌, ◌<◌, All, IfOk};
 ghost use Rattle.attr_sets.specs.declared.set.TheConstants.{MOST_ATTRIBUTES};
 ghost use Rattle.cover_accounts.specs.CoverDiagnostics.{NamesAttribute};
-ghost use Rattle.desk_covers.specs.CoverChecks.{ChecksCanonicalCover, ChecksCover, ChecksCoverForm, TestsCover, TestsForm, diagnostic_text, diagnostics_text, form_text, form_words, not_needed_text, placed_dep_text};
+ghost use Rattle.desk_covers.specs.CoverChecks.{ChecksCanonicalCover, ChecksCover, ChecksCoverForm, TestsCover};
+ghost use Rattle.desk_covers.specs.CoverChecks.{TestsForm, diagnostic_text, diagnostics_text, form_text, form_words};
+ghost use Rattle.desk_covers.specs.CoverChecks.{not_needed_text, placed_dep_text};
 ghost use Rattle.desk_responses.specs.Responses.{response_value, RespondsAs};
 ghost use Rattle.schema_match.specs.Columns.{SameNames};
 

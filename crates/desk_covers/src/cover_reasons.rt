@@ -4,7 +4,9 @@ ghost use Rattle.attr_sets.specs.Sets.{attributes};
 ghost use Rattle.attr_sets.specs.declared.set.TheConstants.{MOST_ATTRIBUTES};
 ghost use Rattle.cover_accounts.specs.Steps.{AreCoverSteps, place_of, places_of, shortened_list, shortened_of};
 ghost use Rattle.schema_model.specs.Schemas.{width_of, theory_of};
-ghost use Rattle.desk_covers.specs.CoverReasons.{AreCoverReasons, ExplainsCover, all_gone_text, gone_text, member_before, member_text, members_text, needless_text, placed_text};
+ghost use Rattle.desk_covers.specs.CoverReasons.{AreCoverReasons, ExplainsCover, all_gone_text, gone_text};
+ghost use Rattle.desk_covers.specs.CoverReasons.{member_before, member_text, members_text, needless_text};
+ghost use Rattle.desk_covers.specs.CoverReasons.{placed_text};
 ghost use Rattle.desk_responses.specs.Responses.{response_value, RespondsAs};
 
 use attr_sets::AttrSet;

@@ -1,7 +1,8 @@
 ghost use Rattle.std.specs.Prelude.{◌≡◌, ◌↔◌, ◌++◌, [], IsTrue, IsNone, IfSome, IfOk, IfErr, OnOk};
 ghost use Rattle.desk_responses.specs.ResponseValues.{Says};
 ghost use Rattle.desk_responses.specs.Responses.{response_value, RespondsAs, ExitsAs};
-ghost use Rattle.desk_covers.specs.Sameness.{ChecksSame, Compares, IsDifferenceText, NameStops, SayTheSame, difference_text, differences_text, not_in_text};
+ghost use Rattle.desk_covers.specs.Sameness.{ChecksSame, Compares, IsDifferenceText, NameStops, SayTheSame};
+ghost use Rattle.desk_covers.specs.Sameness.{difference_text, differences_text, not_in_text};
 ghost use Rattle.schema_match.specs.Columns.{SameNames};
 ghost use Rattle.schema_printer.specs.Spelling.{printed_names_of};
 ghost use Rattle.desk_responses.specs.Lines.{attribute_name};

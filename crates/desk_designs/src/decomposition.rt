@@ -5,7 +5,8 @@ ghost use Rattle.split_forms.specs.Refusals.{IsRefusedSplit};
 ghost use Rattle.plans.specs.Plans.{IsPlanOver, plan_of, scheme_sets};
 ghost use Rattle.dep_model.specs.declared.form.Form.TheVariants as forms;
 ghost use Rattle.desk_responses.specs.ResponseValues.{Says};
-ghost use Rattle.desk_designs.specs.Decompositions.{FormStops, IsPlanInForm, IsSplitInForm, ShowsPlan, SplitStops, Splits, SplitsWide, too_many_schemes_text, wide_split_text};
+ghost use Rattle.desk_designs.specs.Decompositions.{FormStops, IsPlanInForm, IsSplitInForm, ShowsPlan, SplitStops};
+ghost use Rattle.desk_designs.specs.Decompositions.{Splits, SplitsWide, too_many_schemes_text, wide_split_text};
 ghost use Rattle.desk_responses.specs.Responses.{response_value, RespondsAs, ExitsAs};
 ghost use Rattle.desk_designs.specs.Synthesis.{IsThirdFormPlan};
 

@@ -10,7 +10,8 @@ ghost use Rattle.fewest_tables.specs.FewestSteps.{group_with, groups_in};
 ghost use Rattle.fewest_tables.specs.MergedPlans.{is_among, left_out};
 ghost use Rattle.desk_responses.specs.Responses.{response_value, RespondsAs};
 ghost use Rattle.desk_texts.specs.Texts.{line};
-ghost use Rattle.desk_designs.specs.FewestReasons.{ExplainsFewest, alike_text, fewer_text, following_text, joined_sets, left_sides_word, merged_text, merging_text, next_set};
+ghost use Rattle.desk_designs.specs.FewestReasons.{ExplainsFewest, alike_text, fewer_text, following_text};
+ghost use Rattle.desk_designs.specs.FewestReasons.{joined_sets, left_sides_word, merged_text, merging_text, next_set};
 ghost use Rattle.desk_designs.specs.SynthesisReasons.{synthesis_text};
 
 use crate::left_out::put_left_out;

@@ -1,4 +1,5 @@
-ghost use Rattle.std.specs.Prelude.{◌≡◌, ◌<◌, ◌≤◌, ◌∷◌, ◌++◌, [], ℕ, codes, length, slice_index_or, All, IsTrue, IfOk, IfErr};
+ghost use Rattle.std.specs.Prelude.{◌≡◌, ◌<◌, ◌≤◌, ◌∷◌, ◌++◌, [], ℕ, codes, length, slice_index_or, All, IsTrue};
+ghost use Rattle.std.specs.Prelude.{IfOk, IfErr};
 ghost use Rattle.attr_sets.specs.Attributes.{IsSubset};
 ghost use Rattle.attr_sets.specs.Sets.{attributes};
 ghost use Rattle.dep_model.specs.Deps.{dependency_of};
@@ -6,7 +7,8 @@ ghost use Rattle.dep_model.specs.Plans.{schemes_of};
 ghost use Rattle.schema_model.specs.Schemas.{universe_of, theory_in};
 ghost use Rattle.plans.specs.Plans.{IsPlanOver, plan_of};
 ghost use Rattle.desk_responses.specs.ResponseValues.{Says};
-ghost use Rattle.desk_designs.specs.NormalForms.{EndsForm, JudgesForm, PassesForm, form_word, in_form_text, tested_violation_of, tested_word, violated_text, violation_of};
+ghost use Rattle.desk_designs.specs.NormalForms.{EndsForm, JudgesForm, PassesForm, form_word, in_form_text};
+ghost use Rattle.desk_designs.specs.NormalForms.{tested_violation_of, tested_word, violated_text, violation_of};
 ghost use Rattle.desk_designs.specs.TestedSchemes.{AreFoundForms};
 ghost use Rattle.schema_printer.specs.Printing.{dependency_text, set_text};
 ghost use Rattle.schema_printer.specs.Spelling.{printed_names_of};

@@ -10,9 +10,11 @@ ghost use Rattle.desk_responses.specs.Responses.{RespondsAs, ExitsAs, response_v
 ghost use Rattle.desk_responses.specs.ResponseValues.{ResponseValue, Says};
 ghost use Rattle.desk_responses.specs.Lines.{too_wide_text};
 ghost use Rattle.fd_closure.specs.LeftSides.{IsWideScheme};
-ghost use Rattle.desk_designs.specs.FormsOfSchemes.{ArePlanTexts, IsSchemeText, ListsFormOfAll, ListsFormsOfPlan, RefusesWide, form_line, last_word};
+ghost use Rattle.desk_designs.specs.FormsOfSchemes.{ArePlanTexts, IsSchemeText, ListsFormOfAll, ListsFormsOfPlan};
+ghost use Rattle.desk_designs.specs.FormsOfSchemes.{RefusesWide, form_line, last_word};
 ghost use Rattle.which_form.specs.Verdicts.{IsVerdict};
-ghost use Rattle.desk_designs.specs.TestedSchemes.{AreFormsOf, AreFoundForms, IsTestedScheme, breach_text, breaches_text, schemes_tested, tested_scheme};
+ghost use Rattle.desk_designs.specs.TestedSchemes.{AreFormsOf, AreFoundForms, IsTestedScheme, breach_text};
+ghost use Rattle.desk_designs.specs.TestedSchemes.{breaches_text, schemes_tested, tested_scheme};
 
 use crate::form::{tested_dependency, word_of_tested};
 use attr_sets::AttrSet;

@@ -6,7 +6,8 @@ ghost use Rattle.dep_model.specs.Tuples.{IsOver};
 ghost use Rattle.typed_rows.specs.Typed.{HoldsNumerals};
 ghost use Rattle.plans.specs.Plans.{plan_of};
 ghost use Rattle.desk_responses.specs.ResponseValues.{Says};
-ghost use Rattle.desk_designs.specs.Joins.{IsShownLossless, JudgesJoin, LossStops, lossless_text, lossy_text, too_many_rows_text};
+ghost use Rattle.desk_designs.specs.Joins.{IsShownLossless, JudgesJoin, LossStops, lossless_text, lossy_text};
+ghost use Rattle.desk_designs.specs.Joins.{too_many_rows_text};
 ghost use Rattle.desk_responses.specs.Responses.{response_value, RespondsAs, ExitsAs};
 
 use attr_sets::AttrSet;

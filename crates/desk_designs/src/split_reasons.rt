@@ -12,7 +12,8 @@ ghost use Rattle.split_forms.specs.Steps.{AreSplitSteps, cutting_of, cuttings_of
 ghost use Rattle.desk_designs.specs.declared.decomposition.TheConstants.{MOST_SPLIT_SCHEMES};
 ghost use Rattle.desk_responses.specs.Responses.{ExitsAs, RespondsAs};
 ghost use Rattle.desk_designs.specs.Decompositions.{IsSplitInForm, SplitStops};
-ghost use Rattle.desk_designs.specs.SplitReasons.{AreSplitReasons, ExplainsCuts, ExplainsSplit, breach_text, cut_text, pair_text, parts_text, split_text};
+ghost use Rattle.desk_designs.specs.SplitReasons.{AreSplitReasons, ExplainsCuts, ExplainsSplit, breach_text};
+ghost use Rattle.desk_designs.specs.SplitReasons.{cut_text, pair_text, parts_text, split_text};
 
 use crate::explained::{ExplainedPlan, explained_response};
 use crate::left_out::put_left_out;

@@ -13,7 +13,8 @@ ghost use Rattle.desk_responses.specs.Responses.{response_value, RespondsAs};
 ghost use Rattle.synthesis_3nf.specs.GroupedPlans.{AreSynthesisSteps};
 ghost use Rattle.synthesis_3nf.specs.Groups.{left_sides_after};
 ghost use Rattle.desk_designs.specs.Synthesis.{IsThirdFormPlan};
-ghost use Rattle.desk_designs.specs.SynthesisReasons.{AreSynthesisReasons, ExplainsSynthesis, cover_text, group_text, key_text, member_text, synthesis_text};
+ghost use Rattle.desk_designs.specs.SynthesisReasons.{AreSynthesisReasons, ExplainsSynthesis, cover_text, group_text};
+ghost use Rattle.desk_designs.specs.SynthesisReasons.{key_text, member_text, synthesis_text};
 
 use crate::explained::{ExplainedPlan, explained_response};
 use crate::left_out::put_left_out;

@@ -3,13 +3,16 @@ use Rattle.std.specs.Prelude.{ℕ, Bool, true, false, List, ◌++◌, codes}
 use Rattle.std.specs.List.{flat_map}
 use Rattle.std.specs.Fmt.{decimal}
 use Rattle.derivation.specs.FaultTexts.{fault_text}
-use Rattle.derivation.specs.Trees.{Step, augmentation, complementation, maugmentation, replication, Pair, transitivity, mtransitivity, coalescence}
+use Rattle.derivation.specs.Trees.{Step, augmentation, complementation, maugmentation, replication, Pair}
+use Rattle.derivation.specs.Trees.{transitivity, mtransitivity, coalescence}
 use Rattle.proof_grammar.specs.Lines.{by_given, by_reflexivity, by_mreflexivity, by_step, by_pair}
 use Rattle.schema_printer.specs.Printing.{dependency_text}
 use Rattle.derivation_grammar.specs.Lines.{DerivationBody, by_rule, by_decomposition, by_further}
 use Rattle.derivation_grammar.specs.Meanings.{further_name}
 use Rattle.derivation_mistakes.specs.declared.misuse.Misuse.{Misuse}
-use Rattle.derivation_mistakes.specs.declared.misuse.Misuse.TheVariants.{AnotherKind, NotTheLeftSide, LeftSidesDiffer, NotWithinLeftSide, AnotherLeftSide, NotWithinRightSide, Fault}
+use Rattle.derivation_mistakes.specs.declared.misuse.Misuse.TheVariants.{AnotherKind, NotTheLeftSide, LeftSidesDiffer}
+use Rattle.derivation_mistakes.specs.declared.misuse.Misuse.TheVariants.{NotWithinLeftSide, AnotherLeftSide}
+use Rattle.derivation_mistakes.specs.declared.misuse.Misuse.TheVariants.{NotWithinRightSide, Fault}
 use Rattle.derivation_mistakes.specs.Mistakes.{Mistake, does_not_apply, gives, MistakenLine}
 use Rattle.desk_texts.specs.Texts.{line}
 

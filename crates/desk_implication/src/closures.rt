@@ -4,7 +4,8 @@ ghost use Rattle.attr_sets.specs.Sets.{attributes};
 ghost use Rattle.closure_steps.specs.Steps.{closure_step_value, closure_step_values};
 ghost use Rattle.schema_model.specs.Schemas.{universe_of};
 ghost use Rattle.schema_printer.specs.Spelling.{printed_names_of};
-ghost use Rattle.desk_implication.specs.Closures.{GivesClosure, TellsClosure, ComesAbout, IsBesideText, closure_text, step_text, steps_text};
+ghost use Rattle.desk_implication.specs.Closures.{GivesClosure, TellsClosure, ComesAbout, IsBesideText, closure_text};
+ghost use Rattle.desk_implication.specs.Closures.{step_text, steps_text};
 ghost use Rattle.desk_responses.specs.Responses.{response_value, RespondsAs};
 
 use arguments::Argument;

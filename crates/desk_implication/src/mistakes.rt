@@ -6,8 +6,11 @@ ghost use Rattle.derivation_rules.specs.Views.{further_of};
 ghost use Rattle.derivation_grammar.specs.Meanings.{further_name};
 ghost use Rattle.derivation_text.specs.Views.{body_of_line};
 ghost use Rattle.derivation_mistakes.specs.declared.misuse.Misuse.TheVariants.{LeftSidesDiffer};
-ghost use Rattle.derivation_mistakes.specs.Views.{mistake_of, mistaken_line_of, mistaken_lines_of, IsMistakenLineOf, IsMistakeWithin};
-ghost use Rattle.desk_implication.specs.MistakeTexts.{follows_text, misuse_text, mistake_text, mistaken_line_text, mistaken_lines_text, pair_name, rule_text, step_name, with_number};
+ghost use Rattle.derivation_mistakes.specs.Views.{mistake_of, mistaken_line_of, mistaken_lines_of, IsMistakenLineOf};
+ghost use Rattle.derivation_mistakes.specs.Views.{IsMistakeWithin};
+ghost use Rattle.desk_implication.specs.MistakeTexts.{follows_text, misuse_text, mistake_text, mistaken_line_text};
+ghost use Rattle.desk_implication.specs.MistakeTexts.{mistaken_lines_text, pair_name, rule_text, step_name};
+ghost use Rattle.desk_implication.specs.MistakeTexts.{with_number};
 
 use byte_texts::{add, add_number};
 use dep_model::OutOfMemory;

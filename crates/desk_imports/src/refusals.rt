@@ -1,7 +1,8 @@
 //! Refusals of SQL, as they are worded.
 
 ghost use Rattle.std.specs.Prelude.{◌≡◌, ◌<◌, ◌≤◌, ◌^◌, ◌++◌, length, take, IfOk, OnOk};
-ghost use Rattle.desk_imports.specs.Imports.{import_refusal_text, line_and_column, place_text, reason_number, reason_text};
+ghost use Rattle.desk_imports.specs.Imports.{import_refusal_text, line_and_column, place_text, reason_number};
+ghost use Rattle.desk_imports.specs.Imports.{reason_text};
 ghost use Rattle.desk_responses.specs.ResponseValues.{Says};
 ghost use Rattle.desk_responses.specs.Responses.{ExitsAs};
 

@@ -8,7 +8,8 @@ ghost use Rattle.dep_model.specs.Keys.{IsSuperkey};
 ghost use Rattle.schema_model.specs.Schemas.{width_of, universe_of, theory_of};
 ghost use Rattle.schema_printer.specs.Spelling.{printed_names_of};
 ghost use Rattle.typed_rows.specs.Shown.{shown_tuples};
-ghost use Rattle.desk_keys.specs.KeyChecks.{ChecksKey, TestsKey, IsKeyText, IsNoSuperkey, key_within_text, no_superkey_text, without_text};
+ghost use Rattle.desk_keys.specs.KeyChecks.{ChecksKey, TestsKey, IsKeyText, IsNoSuperkey, key_within_text};
+ghost use Rattle.desk_keys.specs.KeyChecks.{no_superkey_text, without_text};
 ghost use Rattle.desk_responses.specs.Responses.{response_value, RespondsAs};
 
 use arguments::Argument;

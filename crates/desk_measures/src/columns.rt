@@ -1,6 +1,7 @@
 //! Values that are not of their column's type.
 
-ghost use Rattle.std.specs.Prelude.{◌≡◌, ◌<◌, ◌≤◌, ◌==◌, ◌++◌, [], length, if◌then◌else◌, slice_index_or, IsTrue, IfOk, OnOk};
+ghost use Rattle.std.specs.Prelude.{◌≡◌, ◌<◌, ◌≤◌, ◌==◌, ◌++◌, [], length, if◌then◌else◌, slice_index_or, IsTrue};
+ghost use Rattle.std.specs.Prelude.{IfOk, OnOk};
 ghost use Rattle.std.specs.List.{position_or_len};
 ghost use Rattle.schema_model.specs.Columns.{is_column_type};
 ghost use Rattle.schema_model.specs.Schemas.{width_of};

@@ -6,7 +6,8 @@ ghost use Rattle.schema_model.specs.Schemas.{lines_of, names_of};
 ghost use Rattle.dep_model.specs.Tuples.{value_at};
 ghost use Rattle.row_store.specs.Rows.{row_at};
 ghost use Rattle.desk_responses.specs.Lines.{line_number_text};
-ghost use Rattle.desk_measures.specs.Offences.{mark_text, part_fields, part_headings, row_fields, row_headings, values_below};
+ghost use Rattle.desk_measures.specs.Offences.{mark_text, part_fields, part_headings, row_fields, row_headings};
+ghost use Rattle.desk_measures.specs.Offences.{values_below};
 
 use attr_sets::{AttrSet, MOST_ATTRIBUTES};
 use dep_model::OutOfMemory;

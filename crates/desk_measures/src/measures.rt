@@ -1,4 +1,5 @@
-ghost use Rattle.std.specs.Prelude.{◌≡◌, ◌<◌, ◌^◌, ◌++◌, ◌==◌, ◌&&◌, [], Bool, length, nat_lt, if◌then◌else◌, IfOk, OnOk};
+ghost use Rattle.std.specs.Prelude.{◌≡◌, ◌<◌, ◌^◌, ◌++◌, ◌==◌, ◌&&◌, [], Bool, length, nat_lt, if◌then◌else◌, IfOk};
+ghost use Rattle.std.specs.Prelude.{OnOk};
 ghost use Rattle.attr_sets.specs.Attributes.{IsSubset, count_below};
 ghost use Rattle.attr_sets.specs.Sets.{attributes};
 ghost use Rattle.row_groups.specs.Interning.{IsInterned};
@@ -7,7 +8,10 @@ ghost use Rattle.schema_model.specs.Schemas.{universe_of, width_of};
 ghost use Rattle.dep_model.specs.Tuples.{IsOver};
 ghost use Rattle.desk_responses.specs.Responses.{response_value, RespondsAs};
 ghost use Rattle.desk_measures.specs.Findings.{Adds};
-ghost use Rattle.desk_measures.specs.Measures.{AreAttributes, AreDetails, FindsWhere, IsAttributeMeasured, IsMeasured, MeasuresRows, attribute_text, breach_text, change_text, counted_text, groups_text, lack_text, measure_text, missing_words, verdict_text};
+ghost use Rattle.desk_measures.specs.Measures.{AreAttributes, AreDetails, FindsWhere, IsAttributeMeasured};
+ghost use Rattle.desk_measures.specs.Measures.{IsMeasured, MeasuresRows, attribute_text, breach_text, change_text};
+ghost use Rattle.desk_measures.specs.Measures.{counted_text, groups_text, lack_text, measure_text, missing_words};
+ghost use Rattle.desk_measures.specs.Measures.{verdict_text};
 ghost use Rattle.desk_measures.specs.Offences.{OfDependency, OfEachDependency};
 
 use crate::columns::{put_columns, put_name};

@@ -8,7 +8,8 @@ ghost use Rattle.schema_model.specs.Schemas.{universe_of, width_of};
 ghost use Rattle.dep_model.specs.Tuples.{IsOver};
 ghost use Rattle.desk_responses.specs.Responses.{response_value, RespondsAs};
 ghost use Rattle.desk_measures.specs.Findings.{Adds};
-ghost use Rattle.desk_measures.specs.Offences.{ArePartLines, AreRowLines, ListsBelow, ListsOffences, ListsOffencesByRow, part_fields, row_fields, shown_of};
+ghost use Rattle.desk_measures.specs.Offences.{ArePartLines, AreRowLines, ListsBelow, ListsOffences};
+ghost use Rattle.desk_measures.specs.Offences.{ListsOffencesByRow, part_fields, row_fields, shown_of};
 ghost use Rattle.desk_measures.specs.BreachFindings.{Tells};
 
 use crate::fields::{

@@ -2,7 +2,8 @@
 use Rattle.std.specs.Prelude.{ℕ, List, [], map, drop, Result, Ok, Err, Vec, String, string_bytes}
 use Rattle.dep_model.specs.declared.memory.OutOfMemory.{OutOfMemory}
 use Rattle.desk_responses.specs.declared.status.Status.{Status}
-use Rattle.desk_responses.specs.declared.status.Status.TheVariants.{Yes, No, Refused, CannotRead, CannotWrite, DestinationFailed}
+use Rattle.desk_responses.specs.declared.status.Status.TheVariants.{Yes, No, Refused, CannotRead, CannotWrite}
+use Rattle.desk_responses.specs.declared.status.Status.TheVariants.{DestinationFailed}
 
 -- the words of arguments, of which the first is the program's name, or none where they are no texts
 abbrev pub words_in : {A B E : Type 0} → Result (Vec (String A) B) E → List (List ℕ)

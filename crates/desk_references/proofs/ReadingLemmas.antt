@@ -1,4 +1,5 @@
--- A list of columns as far as its tokens were read: it is read where nothing is wrong, or refused by its first diagnostic.
+-- A list of columns as far as its tokens were read: it is read where nothing is wrong, or refused by its first
+-- diagnostic.
 use Rattle.std.specs.Prelude.{AllPairs, Contains}
 use Rattle.std.specs.List.{AllZip, slice_get}
 use Rattle.std.proofs.Common.{inl, inr, ◌≡◌, ◌<◌, ◌≤◌, ◌+◌, ◌⊎◌, ℕ, zero, suc, true, List, [], ◌∷◌, ◌++◌, length, take, get_or, Option, Some, None, refl, sym, ap, subst, ◌∙◌, ⊎_elim, arith}

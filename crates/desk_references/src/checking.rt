@@ -1,7 +1,8 @@
 ghost use Rattle.std.specs.Prelude.{◌≡◌, ◌<◌, ◌≤◌, ◌++◌, All, IfOk, OnOk, length, map};
 ghost use Rattle.csv_text.specs.Rows.{csv_row, rows_only};
 ghost use Rattle.dep_model.specs.Tuples.{IsOver};
-ghost use Rattle.desk_references.specs.Checks.{ChecksReferences, JudgesReference, as_many_text, count_text, unmatched_text};
+ghost use Rattle.desk_references.specs.Checks.{ChecksReferences, JudgesReference, as_many_text, count_text};
+ghost use Rattle.desk_references.specs.Checks.{unmatched_text};
 ghost use Rattle.desk_responses.specs.ResponseValues.{Says};
 ghost use Rattle.desk_responses.specs.Responses.{ExitsAs, RespondsAs};
 ghost use Rattle.file_references.specs.Columns.{name_at};

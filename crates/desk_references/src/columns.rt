@@ -4,7 +4,8 @@ ghost use Rattle.std.specs.Prelude.{◌≡◌, ◌≤◌, List, length, IfErr, I
 ghost use Rattle.std.specs.List.{AllZip};
 ghost use Rattle.attr_sets.specs.declared.set.TheConstants.{MOST_ATTRIBUTES};
 ghost use Rattle.dep_model.specs.Failures.{RefusesAs};
-ghost use Rattle.desk_references.specs.ColumnLists.{AreColumns, ColumnsStop, MeansColumns, NamesColumnAt, RefusesColumns};
+ghost use Rattle.desk_references.specs.ColumnLists.{AreColumns, ColumnsStop, MeansColumns, NamesColumnAt};
+ghost use Rattle.desk_references.specs.ColumnLists.{RefusesColumns};
 ghost use Rattle.desk_references.specs.ColumnSteps.{IsRefusedNext, NamesNext};
 ghost use Rattle.desk_responses.specs.Responses.{ExitsAs};
 ghost use Rattle.lexer.specs.Tokens.{Mark, bytes_of};

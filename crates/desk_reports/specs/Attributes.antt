@@ -1,5 +1,6 @@
 -- The section of a page on the attributes of a schema.
-use Rattle.std.specs.Prelude.{◌≡◌, ◌⊎◌, ℕ, ◌≤◌, Bool, if◌then◌else◌, List, [], ◌++◌, codes, fold, length, slice_index_or}
+use Rattle.std.specs.Prelude.{◌≡◌, ◌⊎◌, ℕ, ◌≤◌, Bool, if◌then◌else◌, List, [], ◌++◌, codes, fold, length}
+use Rattle.std.specs.Prelude.{slice_index_or}
 use Rattle.attr_sets.specs.Attributes.{Attributes, none, union}
 use Rattle.attr_sets.specs.Sets.{attributes}
 use Rattle.attr_sets.specs.declared.set.AttrSet.{AttrSet}

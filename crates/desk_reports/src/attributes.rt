@@ -7,7 +7,9 @@ ghost use Rattle.schema_model.specs.Schemas.{width_of};
 ghost use Rattle.schema_model.specs.Schemas.{Schema as Declared};
 ghost use Rattle.design_picture.specs.Picture.{texts_below};
 ghost use Rattle.desk_reports.specs.Answers.{Adds, AreFoundKeys};
-ghost use Rattle.desk_reports.specs.Attributes.{AreListedMembers, AttributesSection, attribute_row, attributes_text, cell_text, key_cell, mark, members_of, missing_cell, name_cell, type_cell};
+ghost use Rattle.desk_reports.specs.Attributes.{AreListedMembers, AttributesSection, attribute_row, attributes_text};
+ghost use Rattle.desk_reports.specs.Attributes.{cell_text, key_cell, mark, members_of, missing_cell, name_cell};
+ghost use Rattle.desk_reports.specs.Attributes.{type_cell};
 ghost use Rattle.html_pages.specs.Escapes.{html_text};
 
 use crate::found::FoundKeys;

@@ -10,7 +10,9 @@ ghost use Rattle.html_pages.specs.Pages.{title_with_words};
 ghost use Rattle.desk_designs.specs.NormalForms.{JudgesForm, tested_violation_of};
 ghost use Rattle.desk_designs.specs.TestedSchemes.{AreFoundForms};
 ghost use Rattle.desk_reports.specs.Answers.{Adds};
-ghost use Rattle.desk_reports.specs.Forms.{FormsSection, ShowsEachForm, ShowsForm, ShowsLeftSide, ShowsViolation, ShowsWhichForm, ShowsWhy, form_title, functional_title, goal_text, goal_words, left_side_title, tested_title};
+ghost use Rattle.desk_reports.specs.Forms.{FormsSection, ShowsEachForm, ShowsForm, ShowsLeftSide, ShowsViolation};
+ghost use Rattle.desk_reports.specs.Forms.{ShowsWhichForm, ShowsWhy, form_title, functional_title, goal_text};
+ghost use Rattle.desk_reports.specs.Forms.{goal_words, left_side_title, tested_title};
 ghost use Rattle.desk_reports.specs.Pieces.{Opens, Then};
 
 use crate::pieces::{put_folded, put_opened, title_of};

@@ -11,7 +11,8 @@ ghost use Rattle.desk_designs.specs.Designs.{WritesPlan};
 ghost use Rattle.html_pages.specs.Pages.{title_with_words};
 ghost use Rattle.desk_reports.specs.Answers.{Adds};
 ghost use Rattle.desk_reports.specs.Pieces.{Folds, Opens};
-ghost use Rattle.desk_reports.specs.Tables.{PlanSection, ShowsFormOf, ShowsFormsOf, ShowsJoinOf, ShowsUseOf, check_words, two_files};
+ghost use Rattle.desk_reports.specs.Tables.{PlanSection, ShowsFormOf, ShowsFormsOf, ShowsJoinOf, ShowsUseOf};
+ghost use Rattle.desk_reports.specs.Tables.{check_words, two_files};
 
 use crate::forms::title_of_form;
 use crate::pieces::{put_folded, put_opened, title_of_two};

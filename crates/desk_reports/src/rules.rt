@@ -4,7 +4,8 @@ ghost use Rattle.std.specs.Prelude.{◌≡◌, ◌↔◌, ◌<◌, ◌++◌, len
 ghost use Rattle.schema_model.specs.Schemas.{deps_of};
 ghost use Rattle.desk_reports.specs.Answers.{Adds};
 ghost use Rattle.desk_reports.specs.Pieces.{EachBelow};
-ghost use Rattle.desk_reports.specs.Rules.{FollowsFromOthers, RulesSection, ShowsRule, ShowsRules, follows_mark, rule_text};
+ghost use Rattle.desk_reports.specs.Rules.{FollowsFromOthers, RulesSection, ShowsRule, ShowsRules, follows_mark};
+ghost use Rattle.desk_reports.specs.Rules.{rule_text};
 
 use byte_texts::add;
 use cover_accounts::dependency_and_others;

@@ -11,7 +11,8 @@ ghost use Rattle.desk_designs.specs.Keeping.{JudgesKeeping};
 ghost use Rattle.desk_designs.specs.SplitReasons.{AreReasonsInForm, ExplainsSplit};
 ghost use Rattle.desk_reports.specs.Answers.{Adds, IsFoundCover};
 ghost use Rattle.desk_reports.specs.Pieces.{FoldsReasons, Opens, OpensExplained, Then};
-ghost use Rattle.desk_reports.specs.Tables.{GivesPlan, ShowsPicture, ShowsSql, ShowsTables, ShowsPlan, TablesSection, ddl_words, plan_words, tables_heading};
+ghost use Rattle.desk_reports.specs.Tables.{GivesPlan, ShowsPicture, ShowsSql, ShowsTables, ShowsPlan, TablesSection};
+ghost use Rattle.desk_reports.specs.Tables.{ddl_words, plan_words, tables_heading};
 ghost use Rattle.schema_model.specs.Schemas.{theory_in};
 
 use crate::pieces::{put_explained, put_folded, put_opened, title_of};

@@ -5,7 +5,9 @@ ghost use Rattle.plans.specs.Plans.{IsPlanOver, plan_of, scheme_sets};
 ghost use Rattle.sql_scripts.specs.Naming.{is_table_name, met_name};
 ghost use Rattle.desk_responses.specs.ResponseValues.{Says};
 ghost use Rattle.desk_responses.specs.Responses.{response_value, RespondsAs, ExitsAs};
-ghost use Rattle.desk_scripts.specs.Scripts.{AsksTable, MeasuresTable, MakesDesign, MetNameStops, TableNameStops, met_table_text, ScriptsCheck, ScriptsMeasure, ScriptsMigration, ScriptsMigrationByPlan};
+ghost use Rattle.desk_scripts.specs.Scripts.{AsksTable, MeasuresTable, MakesDesign, MetNameStops, TableNameStops};
+ghost use Rattle.desk_scripts.specs.Scripts.{met_table_text, ScriptsCheck, ScriptsMeasure, ScriptsMigration};
+ghost use Rattle.desk_scripts.specs.Scripts.{ScriptsMigrationByPlan};
 
 use arguments::Argument;
 use ddl_text::DesignList;

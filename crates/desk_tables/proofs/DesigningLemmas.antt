@@ -1,4 +1,5 @@
--- The files of tables as those of a design: members of lists at positions, lists that are grouped, and tables with keys.
+-- The files of tables as those of a design: members of lists at positions, lists that are grouped, and tables with
+-- keys.
 use Rattle.std.proofs.Common.{◌≡◌, ℕ, ◌+◌, ◌<◌, ◌==◌, zero, suc, Bool, true, false, List, [], ◌∷◌, ◌++◌, length, map, take, drop, get_or, Option, Some, None, Result, Ok, Err, refl, sym, ap, subst, ◌∙◌, arith}
 use Rattle.std.specs.Prelude.{All, IfOk, if◌then◌else◌, slice_get}
 use Rattle.std.specs.List.{AllZip}

@@ -38,9 +38,9 @@ migrated_text naming rows tables =
     line (codes "read " ++ decimal (length rows) ++ codes " rows") ++ flat_map (table_line naming) tables
 
 -- ---- answers
--- the tables of a plan, in the order of a design and with the names that are given in it, hold the ordered projections of
--- the rows that miss no value of their keys; where they can be read back, exactly the rows are, and where each row has its
--- own in each table, this is their natural join
+-- the tables of a plan, in the order of a design and with the names that are given in it, hold the ordered
+-- projections of the rows that miss no value of their keys; where they can be read back, exactly the rows are, and
+-- where each row has its own in each table, this is their natural join
 pub record AreTablesOf (schema : Schema) (names : GivenNames) (plan : List Attributes) (rows : Relation)
     (tables : List TableValue) : Type 0 where
   pub design : List KeyedScheme

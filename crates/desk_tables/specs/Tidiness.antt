@@ -1,6 +1,7 @@
--- Rows of which a table would lose a value: for `migrate`, before it makes tables. A table has no row for a row that misses
--- a value of its key.
-use Rattle.std.specs.Prelude.{◌≡◌, ℕ, ◌+◌, ◌<◌, ◌&&◌, true, false, not, List, ◌++◌, codes, length, take, All, Option, Some, None}
+-- Rows of which a table would lose a value: for `migrate`, before it makes tables. A table has no row for a row
+-- that misses a value of its key.
+use Rattle.std.specs.Prelude.{◌≡◌, ℕ, ◌+◌, ◌<◌, ◌&&◌, true, false, not, List, ◌++◌, codes, length, take, All, Option}
+use Rattle.std.specs.Prelude.{Some, None}
 use Rattle.std.specs.Fmt.{decimal}
 use Rattle.std.specs.List.{AllZip, flat_map}
 use Rattle.attr_sets.specs.Attributes.{Attributes, IsFirstFrom}
@@ -25,7 +26,8 @@ use Rattle.desk_texts.specs.Texts.{line}
 -- the key of a table is the primary key of its scheme
 abbrev pub HasPrimaryKey : Schema → KeyedScheme → Type 0
 HasPrimaryKey schema table =
-    IsPrimaryKey (width_of schema) (theory_of schema) (nullable_of schema) (attributes table.scheme) (attributes table.key)
+    IsPrimaryKey (width_of schema) (theory_of schema) (nullable_of schema) (attributes table.scheme)
+    (attributes table.key)
 
 -- the schemes of a plan in the order of a design, each with its primary key
 pub record IsKeyedDesign (schema : Schema) (plan : List Attributes) (design : List KeyedScheme) : Type 0 where

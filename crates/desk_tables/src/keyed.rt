@@ -19,8 +19,8 @@ use schema_model::Schema;
 use std::alloc::Global;
 use table_names::MOST_TABLES;
 
-/// The schemes of a plan in the order of a design, each with its primary key. No memory holds a plan of more tables than
-/// have a name.
+/// The schemes of a plan in the order of a design, each with its primary key. No memory holds a plan of more tables
+/// than have a name.
 pub fn keyed_design(
     alloc: Global,
     schema: &Schema,

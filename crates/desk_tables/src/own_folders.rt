@@ -11,7 +11,8 @@ ghost use Rattle.plans.specs.Plans.{IsPlanOver, plan_of, scheme_sets};
 ghost use Rattle.desk_responses.specs.ResponseValues.{Says};
 ghost use Rattle.desk_responses.specs.Responses.{ExitsAs, RespondsAs, own_folder_value};
 ghost use Rattle.desk_responses.specs.declared.status.Status.TheVariants.{Refused};
-ghost use Rattle.desk_tables.specs.OwnFolders.{FolderStops, IsFolderOf, Looks, MigratesInto, MigratesPlanInto, MigratesRowsInto, not_empty_text};
+ghost use Rattle.desk_tables.specs.OwnFolders.{FolderStops, IsFolderOf, Looks, MigratesInto, MigratesPlanInto};
+ghost use Rattle.desk_tables.specs.OwnFolders.{MigratesRowsInto, not_empty_text};
 
 use crate::migration::migrate_rows;
 use arguments::Argument;

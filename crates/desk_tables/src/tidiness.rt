@@ -12,7 +12,8 @@ ghost use Rattle.schema_model.specs.Schemas.{nullable_of, universe_of, width_of}
 ghost use Rattle.desk_responses.specs.declared.status.Status.TheVariants.{No};
 ghost use Rattle.desk_responses.specs.ResponseValues.{Says};
 ghost use Rattle.desk_responses.specs.Responses.{ExitsAs};
-ghost use Rattle.desk_tables.specs.Tidiness.{AreUntidy, FindsUntidy, HasPrimaryKey, IsTidyRow, IsUntidyAt, LosesValues, missing_among, present_among, untidy_text, untidy_texts};
+ghost use Rattle.desk_tables.specs.Tidiness.{AreUntidy, FindsUntidy, HasPrimaryKey, IsTidyRow, IsUntidyAt};
+ghost use Rattle.desk_tables.specs.Tidiness.{LosesValues, missing_among, present_among, untidy_text, untidy_texts};
 
 use attr_sets::{AttrSet, MOST_ATTRIBUTES};
 use byte_texts::{add, add_number};
@@ -23,8 +24,8 @@ use row_store::Rows;
 use schema_model::Schema;
 use std::alloc::Global;
 
-/// A row of which a table would lose a value: its number, counted from 1; the first attribute of the table's key of which
-/// it misses the value; and the first one beside the key of which it has one.
+/// A row of which a table would lose a value: its number, counted from 1; the first attribute of the table's key of
+/// which it misses the value; and the first one beside the key of which it has one.
 #[derive(Clone, Copy, Debug)]
 pub struct Untidy {
     pub row: u32,

@@ -46,7 +46,7 @@ adds_nothing state is_open = record {
   cause = record { later = omega arith; fine = refl; failed = λ e. absurd cc };
 }
 
--- nothing was written, for want of memory
+-- nothing was written, where memory does not suffice
 pub adds_not : (bytes : List ℕ) (state : FolderState) → AddsBytes bytes state state (Err OutOfMemory)
 adds_not bytes state = record { ok = tt; is_open = tt; kept = refl; same = refl; cause = memory_cause state.faults }
 

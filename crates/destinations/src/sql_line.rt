@@ -1,7 +1,8 @@
 ghost use Rattle.std.specs.Prelude.{◌≡◌, ◌==◌, false, [], ◌++◌, if◌then◌else◌, slice_index_or, IfOk, OnOk};
 ghost use Rattle.std.specs.List.{list_any};
 ghost use Rattle.std.specs.Str.{is_utf8};
-ghost use Rattle.destinations.specs.Sql.{escape_after, escaped_after, quoted_text, is_sql_text, sql_value, sql_cell, sql_cells, sql_head, sql_row};
+ghost use Rattle.destinations.specs.Sql.{escape_after, escaped_after, quoted_text, is_sql_text, sql_value, sql_cell};
+ghost use Rattle.destinations.specs.Sql.{sql_cells, sql_head, sql_row};
 ghost use Rattle.sql_syntax.specs.Names.{comma_list, separator};
 
 use byte_texts::add;

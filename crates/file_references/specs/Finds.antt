@@ -8,7 +8,8 @@ use Rattle.attr_sets.specs.declared.set.AttrSet.{AttrSet}
 use Rattle.attr_sets.specs.declared.set.TheConstants.{MOST_ATTRIBUTES}
 use Rattle.dep_model.specs.Projections.{members_below}
 use Rattle.dep_model.specs.Tuples.{Tuple, Relation, value_at}
-use Rattle.file_references.specs.Columns.{HasValue, HasWholeRow, file_at, misses_none, misses_nothing, name_at, values_on}
+use Rattle.file_references.specs.Columns.{HasValue, HasWholeRow, file_at, misses_none, misses_nothing, name_at}
+use Rattle.file_references.specs.Columns.{values_on}
 use Rattle.file_references.specs.Keys.{AreLooked, AreValues, IsLooked, KnowsKeys}
 use Rattle.file_references.specs.References.{IsReference, IsTarget, Reference}
 use Rattle.file_references.specs.declared.reference.FoundReference.{FoundReference}

@@ -1,6 +1,7 @@
 //! The sources that refer to a target.
 
-ghost use Rattle.std.specs.Prelude.{◌≡◌, ◌↔◌, ◌+◌, ◌<◌, ◌≤◌, ℕ, true, List, length, map, All, IfOk, IsTrue, MatchOption, OnOk};
+ghost use Rattle.std.specs.Prelude.{◌≡◌, ◌↔◌, ◌+◌, ◌<◌, ◌≤◌, ℕ, true, List, length, map, All, IfOk, IsTrue};
+ghost use Rattle.std.specs.Prelude.{MatchOption, OnOk};
 ghost use Rattle.dep_model.specs.Tuples.{IsOver};
 ghost use Rattle.file_references.specs.Columns.{file_at};
 ghost use Rattle.file_references.specs.Finds.{Adds, AllAre, AreNamedAs, AreReferences, FitsFile, IsTargetOf, IsThis};

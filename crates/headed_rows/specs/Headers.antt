@@ -1,6 +1,7 @@
 -- When the header of a file names its columns, or why it does not, and how a schema text names them:
 -- for `read_headed`, by `Headings`, and for what `discover` prints.
-use Rattle.std.specs.Prelude.{◌≡◌, ◌≢◌, ◌+◌, ◌<◌, ◌≤◌, ◌⊎◌, ℕ, Bool, ◌&&◌, not, if◌then◌else◌, List, [], length, take, slice_index_or, None}
+use Rattle.std.specs.Prelude.{◌≡◌, ◌≢◌, ◌+◌, ◌<◌, ◌≤◌, ◌⊎◌, ℕ, Bool, ◌&&◌, not, if◌then◌else◌, List, [], length, take}
+use Rattle.std.specs.Prelude.{slice_index_or, None}
 use Rattle.std.specs.List.{list_all}
 use Rattle.schema_model.specs.Names.{IsName, is_bare_name}
 use Rattle.schema_model.specs.Schemas.{attribute_named}

@@ -2,7 +2,8 @@ ghost use Rattle.std.specs.Prelude.{◌≡◌, ◌<◌, ◌≤◌, ◌^◌, ℕ,
 ghost use Rattle.std.specs.List.{list_all};
 ghost use Rattle.csv.specs.Records.{fields_of};
 ghost use Rattle.dep_model.specs.Failures.{RefusesAs};
-ghost use Rattle.headed_rows.specs.Headers.{NamesColumn, RefusesColumn, IsHeaderWithin, RefusesColumnHeader, is_plain_name, naming_under};
+ghost use Rattle.headed_rows.specs.Headers.{NamesColumn, RefusesColumn, IsHeaderWithin, RefusesColumnHeader};
+ghost use Rattle.headed_rows.specs.Headers.{is_plain_name, naming_under};
 
 use crate::HeaderRefusal;
 use csv::ByteRecord;

@@ -3,7 +3,8 @@ ghost use Rattle.csv.specs.Records.{fields_of};
 ghost use Rattle.csv_rows.specs.Records.{HasLeft};
 ghost use Rattle.dep_model.specs.Failures.{RefusesAs};
 ghost use Rattle.dep_model.specs.Tuples.{IsOver};
-ghost use Rattle.headed_rows.specs.Headings.{headed_of, IsHeadedWithin, IsRefusedWithin, is_open_at, FitsRow, RefusesRow, RefusesRows, ReadsNames, RefusesNames};
+ghost use Rattle.headed_rows.specs.Headings.{headed_of, IsHeadedWithin, IsRefusedWithin, is_open_at, FitsRow};
+ghost use Rattle.headed_rows.specs.Headings.{RefusesRow, RefusesRows, ReadsNames, RefusesNames};
 
 use crate::HeaderRefusal;
 use crate::columns::column_names;

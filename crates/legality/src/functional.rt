@@ -81,12 +81,12 @@ fn rows_agree(
     ensures differ { result ≡ false
         → AgreeOn (attributes set) (row_at rows.now first) (row_at rows.now second) → ⊥ }
 {
-    for attribute in 0..width {
-        if set.contains(attribute) {
-            if codes.code(first, attribute) != codes.code(second, attribute) {
-                return false;
-            }
+    let mut left = set;
+    while let Some(attribute) = left.first() {
+        if codes.code(first, attribute) != codes.code(second, attribute) {
+            return false;
         }
+        left = left.without(attribute);
     }
     true
 }

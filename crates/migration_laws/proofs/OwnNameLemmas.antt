@@ -17,7 +17,7 @@ use Rattle.sql_syntax.specs.Names.{quoted_name}
 use Rattle.sql_migrate_laws.specs.Ending.{NamesDiffer}
 use Rattle.desk_designs.specs.Designs.{IsSoundDesign}
 use Rattle.migration_laws.specs.Ready.{HaveOwnNames}
-use Rattle.migration_laws.proofs.QuoteLemmas.{quoted_tell}
+use Rattle.migration_laws.proofs.QuoteLemmas.{quoted_once}
 
 -- ---- names that a script gives
 -- no number has such a name
@@ -62,14 +62,14 @@ module _ (s : Schema) (names : GivenNames) (plan : List AttrSet) (tables : List 
   not_of_script script taken numbered t h same =
       let low = h.1 in
       not_given script (h.0 + 1) taken (numbered (h.0 + 1) (omega arith) (omega (arith, low, few))) (get_or names h.0 None) (own_at names h.0 apart.own)
-      (sym (name_at t h) ∙ quoted_tell t.name script same)
+      (sym (name_at t h) ∙ quoted_once t.name script same)
 
   named_differ : AllPairs NamesDiffer tables
   named_differ i j d before low same =
       let first : Contains tables (get_or tables i d) = (i, omega (arith, before, low), at_any i (omega (arith, before, low))) in
       let second : Contains tables (get_or tables j d) = (j, low, at_any j low) in
       let equal : name_of_table names i ≡ name_of_table names j =
-      sym (name_at (get_or tables i d) first) ∙ quoted_tell (get_or tables i d).name (get_or tables j d).name same ∙ name_at (get_or tables j d) second in
+      sym (name_at (get_or tables i d) first) ∙ quoted_once (get_or tables i d).name (get_or tables j d).name same ∙ name_at (get_or tables j d) second in
       true≢false (sym (same_itself (name_of_table names j))
       ∙ ap (λ (word : List ℕ). same_name word (name_of_table names j)) (sym equal)
       ∙ tables_named_apart names i j apart before (omega (arith, low, few)))

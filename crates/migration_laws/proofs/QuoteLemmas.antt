@@ -1,4 +1,4 @@
--- A name between double quotes tells the name.
+-- Two names that are one between double quotes are one.
 use Rattle.std.proofs.Common.{◌≡◌, ◌+◌, ◌==◌, ℕ, Bool, true, false, List, [], ◌∷◌, ◌++◌, length, refl, sym, ap, ap₂, ◌∙◌, arith}
 use Rattle.std.proofs.lemmas.Bool.{eqb-true, true≢false}
 use Rattle.std.proofs.lemmas.List.{length-append}
@@ -32,14 +32,14 @@ same_step true false x y r s px qy same = absurd (true≢false (ap (λ (n : ℕ)
 same_step false true x y r s px qy same = absurd (true≢false (ap (λ (n : ℕ). n == 34) (sym (ap first_of same)) ∙ px))
 same_step false false x y r s px qy same = (ap first_of same, ap rest_of same)
 
-told : (xs ys : List ℕ) → quotes_doubled xs ++ 34 ∷ [] ≡ quotes_doubled ys ++ 34 ∷ [] → xs ≡ ys
+doubled_once : (xs ys : List ℕ) → quotes_doubled xs ++ 34 ∷ [] ≡ quotes_doubled ys ++ 34 ∷ [] → xs ≡ ys
 unfolding quotes_doubled
-told [] [] same = refl
-told [] (y ∷ ys) same = absurd (not_at_end (y == 34) y (quotes_doubled ys) same)
-told (x ∷ xs) [] same = absurd (not_at_end (x == 34) x (quotes_doubled xs) (sym same))
-told (x ∷ xs) (y ∷ ys) same =
+doubled_once [] [] same = refl
+doubled_once [] (y ∷ ys) same = absurd (not_at_end (y == 34) y (quotes_doubled ys) same)
+doubled_once (x ∷ xs) [] same = absurd (not_at_end (x == 34) x (quotes_doubled xs) (sym same))
+doubled_once (x ∷ xs) (y ∷ ys) same =
     let step = same_step (x == 34) (y == 34) x y (quotes_doubled xs) (quotes_doubled ys) refl refl same in
-    ap₂ (λ (b : ℕ) (bs : List ℕ). b ∷ bs) step.0 (told xs ys step.1)
+    ap₂ (λ (b : ℕ) (bs : List ℕ). b ∷ bs) step.0 (doubled_once xs ys step.1)
 
-pub quoted_tell : (one other : List ℕ) → quoted_name one ≡ quoted_name other → one ≡ other
-quoted_tell one other same = told one other (ap rest_of same)
+pub quoted_once : (one other : List ℕ) → quoted_name one ≡ quoted_name other → one ≡ other
+quoted_once one other same = doubled_once one other (ap rest_of same)

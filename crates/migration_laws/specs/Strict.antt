@@ -2,7 +2,8 @@
 use Rattle.std.specs.Prelude.{Bool, false, not, ◌&&◌, ◌||◌, Option, Some, None, is_some, List, [], ◌∷◌}
 use Rattle.std.specs.List.{list_any}
 use Rattle.sql_syntax.specs.Syntax.{ColumnName}
-use Rattle.sql_syntax.specs.Statements.{Element, column_definition, primary_key, unique_key, foreign_key, Statement, create_table}
+use Rattle.sql_syntax.specs.Statements.{Element, column_definition, primary_key, unique_key, foreign_key, Statement}
+use Rattle.sql_syntax.specs.Statements.{create_table}
 use Rattle.sql_evaluation.specs.Cells.{Cell, same_row}
 use Rattle.sql_evaluation.specs.Evaluation.{Rows}
 use Rattle.sql_evaluation.specs.Rules.{cells_in, is_any_missing}

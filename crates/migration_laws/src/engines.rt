@@ -6,8 +6,8 @@ ghost use Rattle.migration_laws.specs.Casting.{cast_of_integers};
 ghost use Rattle.migration_laws.specs.Ready.{IsFairEngine};
 ghost use Rattle.migration_laws.specs.Strict.{refuses_broken};
 
-/// An engine that casts the texts of integers, each to its integer, and refuses exactly what would break a rule of a table
-/// is fair.
+/// An engine that casts the texts of integers, each to its integer, and refuses exactly what would break a rule of
+/// a table is fair.
 pub fn a_strict_engine_is_fair()
     ensures law { (script : List Statement)
         → IsFairEngine (refuses_broken cast_of_integers script) cast_of_integers script }

@@ -1,7 +1,8 @@
 -- Multivalued dependencies that one relation obeys: the blocks of a set, and the reduced dependencies. For
 -- the law of mvd_laws, and for lists of all that rows obey.
 use Rattle.std.specs.Prelude.{◌≡◌, ◌<◌, ◌⊎◌, ℕ, true, List, All, AllPairs, Contains}
-use Rattle.attr_sets.specs.Attributes.{Attributes, below, only, union, difference, IsSubset, IsEmpty, Disjoint, IsBefore, IsFirstFrom}
+use Rattle.attr_sets.specs.Attributes.{Attributes, below, only, union, difference, IsSubset, IsEmpty, Disjoint}
+use Rattle.attr_sets.specs.Attributes.{IsBefore, IsFirstFrom}
 use Rattle.dep_model.specs.Tuples.{Relation}
 use Rattle.dep_model.specs.Dependencies.{Dependency, mvd, left_of, right_of, ObeysFd, ObeysMvd}
 

@@ -8,7 +8,8 @@ ghost use Rattle.dep_model.specs.Failures.{RefusesAs};
 ghost use Rattle.dep_model.specs.Tuples.{Relation};
 ghost use Rattle.fd_discovery.specs.Searching.{AreUndetermined};
 ghost use Rattle.near_rules.specs.NearRules.{MustBeTried};
-ghost use Rattle.near_rules.specs.Searching.{AreNearFoundBefore, AreNearFoundUpTo, AreGrouped, AreSought, IsTooManyTried};
+ghost use Rattle.near_rules.specs.Searching.{AreNearFoundBefore, AreNearFoundUpTo, AreGrouped, AreSought};
+ghost use Rattle.near_rules.specs.Searching.{IsTooManyTried};
 
 use crate::found::{Found, MOST_TRIED, Sought, TooManyTried};
 use crate::front::is_far;

@@ -1,4 +1,5 @@
--- What making a folder of its own and writing files to it leaves: for own_folder, and for what the whole call ends with.
+-- What making a folder of its own and writing files to it leaves: for own_folder, and for what the whole call ends
+-- with.
 use Rattle.std.specs.Prelude.{◌≡◌, ◌⊎◌, ℕ, List, [], ◌∷◌, Result, Ok, Err}
 use Rattle.desk_outside.specs.Causes.{HasOutsideCause}
 use Rattle.desk_outside.specs.declared.failure.OutsideFault.{OutsideFault}

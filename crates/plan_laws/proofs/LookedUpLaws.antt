@@ -1,5 +1,5 @@
--- The parts that have the rows of a migration's tables, in whatever order a readable design that has an optional table, are
--- looked up to the rows.
+-- The parts that have the rows of a migration's tables, in whatever order a readable design that has an optional
+-- table, are looked up to the rows.
 use Rattle.std.proofs.Common.{◌≡◌, ◌<◌, ◌+◌, ◌++◌, ℕ, List, [], ◌∷◌, filter, length, map, sym, ap, subst, ◌∙◌, inl, inr, arith}
 use Rattle.std.specs.Prelude.{All, Contains}
 use Rattle.std.specs.List.{AllZip}

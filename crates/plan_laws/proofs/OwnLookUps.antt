@@ -1,5 +1,5 @@
--- The tables that a migration makes of a plan that can be read back, each once and in whatever order, are a readable design;
--- so `rejoin` gives the rows of them, whether one is optional or none.
+-- The tables that a migration makes of a plan that can be read back, each once and in whatever order, are a
+-- readable design; so `rejoin` gives the rows of them, whether one is optional or none.
 use Rattle.std.proofs.Common.{◌≡◌, ◌<◌, ◌+◌, ℕ, Bool, true, false, true≢false, List, [], ◌∷◌, map, refl, sym, ap, subst, ◌∙◌, arith, IsPermutation}
 use Rattle.std.specs.Prelude.{All, Any, Contains}
 use Rattle.std.specs.List.{AllZip, list_any}

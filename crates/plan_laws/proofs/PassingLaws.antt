@@ -1,5 +1,5 @@
--- Plans whose schemes are in a form pass the test of that form, in third form that of second too, and lossless plans that
--- of their join.
+-- Plans whose schemes are in a form pass the test of that form, in third form that of second too, and lossless
+-- plans that of their join.
 use Rattle.std.proofs.Common.{◌≡◌, ◌≤◌, ◌++◌, ◌∙◌, ℕ, List, [], ◌∷◌, length, get_or, refl, sym, ap, subst, inl, inr, arith}
 use Rattle.std.specs.Prelude.{All, Contains}
 use Rattle.std.proofs.lemmas.List.{length-map}

@@ -1,5 +1,5 @@
--- What `migrate` finds of rows that tables would lose has one answer, since the tables of a plan have one scheme and one key
--- each.
+-- What `migrate` finds of rows that tables would lose has one answer, since the tables of a plan have one scheme
+-- and one key each.
 use Rattle.std.proofs.Common.{◌≡◌, ◌<◌, ◌+◌, ◌==◌, ◌≤◌, ℕ, true, false, true≢false, not, List, [], ◌∷◌, length, get_or, drop, take, Option, Some, None, refl, sym, ap, subst, ◌∙◌, inl, inr, arith}
 use mathlib.Core.Path.{fun_ext}
 use Rattle.std.specs.Prelude.{All, Contains}

@@ -55,8 +55,9 @@ pub fn scripts_have_one_answer()
         → AllowsOne (ScriptsMigrationByPlan schema names plan name) }
 {}
 
-/// `check rows`, `migrate` (where no file that is read is written over, and into a folder of its own too, where a look at a
-/// name has one answer), `sample` and `rejoin` have one answer, text and tables, to the values that they are asked about.
+/// `check rows`, `migrate` (where no file that is read is written over, and into a folder of its own too, where a
+/// look at a name has one answer), `sample` and `rejoin` have one answer, text and tables, to the values that they
+/// are asked about.
 pub fn tables_have_one_answer()
     ensures check_rows { (schema : Schema) (rows : Relation) → AllowsOne (JudgesRows schema rows) }
     ensures migrate { (schema : Schema) (names : GivenNames) (plan : List Attributes) (rows : Relation)
@@ -68,7 +69,8 @@ pub fn tables_have_one_answer()
     ensures into { (looks : Looks) (schema : Schema) (form : Form) (name : List ℕ) (rows : Relation)
         → HasOneLook looks → AllowsOne (MigratesInto looks schema form name rows) }
     ensures into_by_plan { (looks : Looks) (schema : Schema) (names : GivenNames) (plan : List Attributes)
-        (name : List ℕ) (rows : Relation) → HasOneLook looks → AllowsOne (MigratesPlanInto looks schema names plan name rows) }
+        (name : List ℕ) (rows : Relation) → HasOneLook looks
+        → AllowsOne (MigratesPlanInto looks schema names plan name rows) }
     ensures sample { (persons : ℕ) → persons ≤ MOST_PERSONS → AllowsOne (Samples persons) }
     ensures rejoin { (schema : Schema) (tables : List PartialRelation) → AllowsOne (JoinsTables schema tables) }
 {}

@@ -25,10 +25,12 @@ ghost use Rattle.desk_designs.specs.Joins.{LosesNothing};
 ghost use Rattle.desk_responses.specs.ResponseValues.{ResponseValue, Says};
 ghost use Rattle.desk_responses.specs.declared.status.Status.TheVariants.{Refused, Yes};
 ghost use Rattle.desk_tables.specs.Migrations.{AreTablesOf};
-ghost use Rattle.desk_tables.specs.Rejoining.{HaveLookUps, JoinsTables, join_refusal_text, joined_tables, looked_up_tables};
+ghost use Rattle.desk_tables.specs.Rejoining.{HaveLookUps, JoinsTables, join_refusal_text, joined_tables};
+ghost use Rattle.desk_tables.specs.Rejoining.{looked_up_tables};
 ghost use Rattle.desk_tables.specs.Tidiness.{AreTidy};
 ghost use Rattle.desk_tables.specs.declared.rejoining.TheConstants.{MOST_JOINED_ROWS};
-ghost use Rattle.plan_laws.specs.Rejoined.{GivesTheRows, HasNoOptional, HaveRowsInAnyOrder, HaveRowsOf, HaveRowsOnceEach};
+ghost use Rattle.plan_laws.specs.Rejoined.{GivesTheRows, HasNoOptional, HaveRowsInAnyOrder, HaveRowsOf};
+ghost use Rattle.plan_laws.specs.Rejoined.{HaveRowsOnceEach};
 
 /// Of the tables that `migrate` makes of legal rows by a plan that loses nothing and has no optional table, `rejoin`
 /// gives the rows, each once, or refuses a join of too many.

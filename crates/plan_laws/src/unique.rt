@@ -43,8 +43,8 @@ pub fn one_design_of_a_plan()
         → IsSoundDesign schema names others other → AreSameTables one other }
 {}
 
-/// `synthesize` has one answer to a schema, and `check form`, `check join` and `check keeps` have one to a schema and a plan;
-/// so the losses of a plan are one list, each with one pair of tuples.
+/// `synthesize` has one answer to a schema, and `check form`, `check join` and `check keeps` have one to a schema
+/// and a plan; so the losses of a plan are one list, each with one pair of tuples.
 pub fn checks_have_one_answer()
     ensures synthesize { (schema : Schema) (one other : ResponseValue) → Synthesizes schema one
         → Synthesizes schema other → one ≡ other }

@@ -18,7 +18,6 @@ use Rattle.proof_grammar.specs.Lines.{NumberedLine, Rules, Body, Line, stated_de
 use Rattle.proof_grammar.specs.Meanings.{IsRule, IsLineBy, MeansLineBy, IsCertificateLine, MeansLine}
 use Rattle.schema_grammar.specs.Rests.{Rest, rest_from, take, refusal_of_token, number, arrow, refusal_at_end, side, arrow_in, number_in, unless}
 use Rattle.schema_grammar.specs.Words.{is_word_token}
-use Rattle.proof_grammar.specs.declared.rule_name.RuleName.{RuleName}
 use Rattle.proof_grammar.specs.Readers.{colon, rule_by}
 use Rattle.proof_grammar.proofs.CheckedLemmas.{bind_ok}
 use Rattle.proof_grammar.proofs.SideLaws.{side_there, side-from}

@@ -1,13 +1,16 @@
 -- The certificate lines that were read so far, as nodes, and what is still unused of them: for the
 -- reading of certificates (`Texts`). `Desk` does not cite it.
-use Rattle.std.specs.Prelude.{ℕ, ◌+◌, ◌-◌, ◌==◌, Bool, ◌&&◌, if◌then◌else◌, nat_lt, nat_le, List, [], ◌∷◌, ◌++◌, length, take, slice_get, slice_set, slice_index, position, Option, None, Some, option_map, is_some, Result, Ok, Err, max}
+use Rattle.std.specs.Prelude.{ℕ, ◌+◌, ◌-◌, ◌==◌, Bool, ◌&&◌, if◌then◌else◌, nat_lt, nat_le, List, [], ◌∷◌, ◌++◌}
+use Rattle.std.specs.Prelude.{length, take, slice_get, slice_set, slice_index, position, Option, None, Some}
+use Rattle.std.specs.Prelude.{option_map, is_some, Result, Ok, Err, max}
 use Rattle.schema_model.specs.Schemas.{Schema, theory_in}
 use Rattle.dep_model.specs.Dependencies.{Dependency, left_of, right_of}
 use Rattle.derivation.specs.declared.fault.FaultKind.{FaultKind}
 use Rattle.derivation.specs.Trees.{Tree, leaf, step, pair, reflexivity, mreflexivity, Step, Pair, Leaf}
 use Rattle.derivation.specs.Table.{leaf_conclusion, step_conclusion, pair_conclusion}
 use Rattle.derivation.specs.declared.measures.TheConstants.{MOST_NODES, MOST_LEVELS}
-use Rattle.proof_grammar.specs.Diagnostics.{Diagnostic, LineDiagnostic, wrong_number, no_such_line, used_twice, never_used, too_many_lines, too_deep, unsound, states_other, empty_proof}
+use Rattle.proof_grammar.specs.Diagnostics.{Diagnostic, LineDiagnostic, wrong_number, no_such_line, used_twice}
+use Rattle.proof_grammar.specs.Diagnostics.{never_used, too_many_lines, too_deep, unsound, states_other, empty_proof}
 use Rattle.proof_grammar.specs.Lines.{Body, by_given, by_reflexivity, by_mreflexivity, by_step, by_pair, Line}
 use Rattle.proof_grammar.specs.Nodes.{with_tree, given_outcome, same_dependency}
 use Rattle.schema_grammar.specs.Rests.{◌>>=◌}

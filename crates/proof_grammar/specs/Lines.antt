@@ -2,14 +2,16 @@
 -- their reading and their printing. The grammar of a line is one; which rules it may name is a parameter.
 use Rattle.std.specs.Prelude.{ℕ, List, Option, Result, Ok, ok_or}
 use Rattle.dep_model.specs.Dependencies.{Dependency}
-use Rattle.derivation.specs.Trees.{Step, augmentation, maugmentation, complementation, replication, Pair, transitivity, mtransitivity, coalescence}
+use Rattle.derivation.specs.Trees.{Step, augmentation, maugmentation, complementation, replication, Pair}
+use Rattle.derivation.specs.Trees.{transitivity, mtransitivity, coalescence}
 use Rattle.lexer.specs.Tokens.{Mark}
 use Rattle.schema_grammar.specs.declared.refusal.SchemaRefusal.{SchemaRefusal}
 use Rattle.schema_grammar.specs.declared.refusal.What.TheVariants as what
 use Rattle.proof_grammar.specs.declared.rule_name.RuleName.{RuleName}
 use Rattle.proof_grammar.specs.declared.rule_name.RuleName.TheVariants as rule
 use Rattle.schema_grammar.specs.Grammar as grammar
-use Rattle.schema_grammar.specs.Rests.{Rest, ◌>>=◌, take, refusal_of_token, number_in, number, arrow, refusal_at_end, unless, side}
+use Rattle.schema_grammar.specs.Rests.{Rest, ◌>>=◌, take, refusal_of_token, number_in, number, arrow, refusal_at_end}
+use Rattle.schema_grammar.specs.Rests.{unless, side}
 use Rattle.proof_grammar.specs.Readers.{colon, with_word, rule_by}
 use Rattle.proof_grammar.specs.Tokens.{rule_word}
 

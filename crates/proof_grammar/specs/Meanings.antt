@@ -3,7 +3,8 @@
 use Rattle.std.specs.Prelude.{◌≡◌, ℕ, Bool, false, ◌&&◌, not, if◌then◌else◌, List, [], ◌∷◌, ◌++◌, filter, Option, codes}
 use Rattle.std.specs.List.{AllZip}
 use Rattle.attr_sets.specs.Attributes.{Attributes}
-use Rattle.derivation.specs.Trees.{Step, augmentation, complementation, maugmentation, replication, Pair, transitivity, mtransitivity, coalescence}
+use Rattle.derivation.specs.Trees.{Step, augmentation, complementation, maugmentation, replication, Pair}
+use Rattle.derivation.specs.Trees.{transitivity, mtransitivity, coalescence}
 use Rattle.schema_model.specs.declared.naming.Naming.{Naming}
 use Rattle.lexer.specs.Modes as mode
 use Rattle.lexer.specs.declared.token.LexError.{LexError}
@@ -12,7 +13,8 @@ use Rattle.lexer.specs.Lines.{line_texts, without_mark}
 use Rattle.lexer.specs.Tokens.{Mark, Lexed, lex}
 use Rattle.schema_grammar.specs.declared.format.Format.TheVariants as format
 use Rattle.schema_grammar.specs.Meanings.{HasTokens, IsSide, IsDependency}
-use Rattle.proof_grammar.specs.Lines.{NumberedLine, Body, by_given, by_reflexivity, by_mreflexivity, by_step, by_pair, Line}
+use Rattle.proof_grammar.specs.Lines.{NumberedLine, Body, by_given, by_reflexivity, by_mreflexivity, by_step, by_pair}
+use Rattle.proof_grammar.specs.Lines.{Line}
 use Rattle.proof_grammar.specs.Texts.{is_yes, is_blank, is_blank_from}
 
 -- ---- the lines that count

@@ -6,7 +6,9 @@ use Rattle.attr_sets.specs.Attributes.{Attributes, IsSubset}
 use Rattle.schema_model.specs.Schemas.{Schema, theory_in}
 use Rattle.dep_model.specs.Dependencies.{Dependency}
 use Rattle.derivation.specs.declared.fault.Fault.{Fault}
-use Rattle.derivation.specs.Trees.{Leaf, given, reflexivity, mreflexivity, Step, augmentation, complementation, maugmentation, replication, Pair, transitivity, mtransitivity, coalescence, Tree, leaf, step, pair, nodes}
+use Rattle.derivation.specs.Trees.{Leaf, given, reflexivity, mreflexivity, Step, augmentation, complementation}
+use Rattle.derivation.specs.Trees.{maugmentation, replication, Pair, transitivity, mtransitivity, coalescence, Tree}
+use Rattle.derivation.specs.Trees.{leaf, step, pair, nodes}
 use Rattle.derivation.specs.Conclusions.{Proves, conclusion_after}
 use Rattle.schema_printer.specs.Printing.{set_text, dependency_text}
 use Rattle.schema_printer.specs.Spelling.{printed_names_of}

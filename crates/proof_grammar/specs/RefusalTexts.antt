@@ -4,7 +4,8 @@ use Rattle.std.specs.Fmt.{decimal}
 use Rattle.derivation.specs.FaultTexts.{fault_number, fault_text}
 use Rattle.schema_grammar.specs.RefusalTexts.{kind_text, span_text}
 use Rattle.schema_printer.specs.Printing.{dependency_text}
-use Rattle.proof_grammar.specs.Diagnostics.{Diagnostic, bad_line, wrong_number, no_such_line, used_twice, never_used, too_many_lines, too_deep, unsound, states_other, empty_proof}
+use Rattle.proof_grammar.specs.Diagnostics.{Diagnostic, bad_line, wrong_number, no_such_line, used_twice, never_used}
+use Rattle.proof_grammar.specs.Diagnostics.{too_many_lines, too_deep, unsound, states_other, empty_proof}
 
 -- the number of a diagnostic
 abbrev pub diagnostic_number : Diagnostic → ℕ

@@ -8,7 +8,8 @@ use Rattle.schema_model.specs.declared.naming.Naming.{Naming}
 use Rattle.lexer.specs.Lines.{line_texts, without_mark}
 use Rattle.schema_grammar.specs.declared.refusal.SchemaRefusal.{SchemaRefusal}
 use Rattle.proof_grammar.specs.declared.refusal.ProofRefusal.{ProofRefusal}
-use Rattle.proof_grammar.specs.Diagnostics.{Diagnostic, LineDiagnostic, bad_line, never_used, empty_proof, line_diagnostic_of}
+use Rattle.proof_grammar.specs.Diagnostics.{Diagnostic, LineDiagnostic, bad_line, never_used, empty_proof}
+use Rattle.proof_grammar.specs.Diagnostics.{line_diagnostic_of}
 use Rattle.proof_grammar.specs.LineDiagnostics.{RefusesCertificateLine}
 use Rattle.proof_grammar.specs.Lines.{Line}
 use Rattle.proof_grammar.specs.Meanings.{certificate_lines_of, certificate_lines, MeansLine, MeanLines}

@@ -1,6 +1,7 @@
 -- A certificate read from left to right: for `read_proof` and the laws that tie it to the meaning.
 -- `Desk` cites only the tests of lines that do not count.
-use Rattle.std.specs.Prelude.{ℕ, ◌+◌, ◌-◌, Bool, true, false, ◌&&◌, if◌then◌else◌, List, [], ◌∷◌, Option, None, Some, Result, Ok, Err, codes}
+use Rattle.std.specs.Prelude.{ℕ, ◌+◌, ◌-◌, Bool, true, false, ◌&&◌, if◌then◌else◌, List, [], ◌∷◌, Option, None, Some}
+use Rattle.std.specs.Prelude.{Result, Ok, Err, codes}
 use Rattle.std.specs.Str.{bytes_eq}
 use Rattle.schema_model.specs.Schemas.{Schema}
 use Rattle.schema_model.specs.Schemas.{names_of, naming_of}

@@ -8,7 +8,8 @@ use Rattle.derivation.specs.declared.measures.TheConstants.{MOST_NODES, MOST_LEV
 use Rattle.derivation.specs.Trees.{Tree, depth, given, reflexivity, mreflexivity, Step, Pair}
 use Rattle.derivation.specs.Table.{leaf_conclusion, step_conclusion, pair_conclusion}
 use Rattle.derivation.specs.Conclusions.{Proves}
-use Rattle.proof_grammar.specs.Diagnostics.{Diagnostic, bad_line, wrong_number, no_such_line, used_twice, never_used, too_many_lines, too_deep, unsound, states_other, empty_proof}
+use Rattle.proof_grammar.specs.Diagnostics.{Diagnostic, bad_line, wrong_number, no_such_line, used_twice, never_used}
+use Rattle.proof_grammar.specs.Diagnostics.{too_many_lines, too_deep, unsound, states_other, empty_proof}
 use Rattle.proof_grammar.specs.Lines.{Body, by_given, by_reflexivity, by_mreflexivity, by_step, by_pair, Line}
 use Rattle.proof_grammar.specs.Spelling.{IsTreeAt, IsTreeOf, AreNodes, uses}
 

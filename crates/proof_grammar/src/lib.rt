@@ -17,8 +17,7 @@ mod refusal;
 mod rule_name;
 
 pub use laws::{
-    certificate_refusal, line_meaning, line_refusal, lines_are_nodes, one_tree, printed_is_read,
-    printed_line_means, printed_nodes, printed_spells, spelled_is_read,
+    certificates_are_read_or_refused, lines_are_read_or_refused, printed_certificates_are_read,
 };
 pub use line_kind::LineKind;
 pub use refusal::{ProofRefusal, ProofRefusalKind};

@@ -1,4 +1,5 @@
-ghost use Rattle.std.specs.Prelude.{◌≡◌, ℕ, ◌+◌, ◌-◌, ◌==◌, ◌<◌, ◌≤◌, ◌^◌, [], length, IfOk, IfErr, OnOk, Ok, Err, Some, option_map, is_some, position, take, max};
+ghost use Rattle.std.specs.Prelude.{◌≡◌, ℕ, ◌+◌, ◌-◌, ◌==◌, ◌<◌, ◌≤◌, ◌^◌, [], length, IfOk, IfErr, OnOk, Ok, Err};
+ghost use Rattle.std.specs.Prelude.{Some, option_map, is_some, position, take, max};
 ghost use Rattle.dep_model.specs.Deps.{dependency_of, IsDepWithin};
 ghost use Rattle.derivation.specs.Derivs.{step_of, pair_of, tree_of};
 ghost use Rattle.proof_grammar.specs.CheckerStates.{root, within_limits};
@@ -34,7 +35,9 @@ pub struct Node {
 
 impl CheckerState {
     ghost use Rattle.proof_grammar.specs.ValidStates.{IsCheckerState};
-    ghost use Rattle.proof_grammar.specs.CheckerStates.{is_earlier, open_at, close_line, prepare_line, step_of_line, pair_of_line, enter_line, add_line, finished_certificate, root_conclusion};
+    ghost use Rattle.proof_grammar.specs.CheckerStates.{is_earlier, open_at, close_line, prepare_line, step_of_line};
+    ghost use Rattle.proof_grammar.specs.CheckerStates.{pair_of_line, enter_line, add_line, finished_certificate};
+    ghost use Rattle.proof_grammar.specs.CheckerStates.{root_conclusion};
     ghost use Rattle.proof_text.specs.Views.{prepared_of, checker_state_of};
 
     pub fn new(alloc: Global) -> CheckerState

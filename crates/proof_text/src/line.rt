@@ -5,7 +5,8 @@ ghost use Rattle.derivation.specs.Derivs.{step_of, pair_of};
 ghost use Rattle.tokens.specs.Views.{names_in, rest_of};
 ghost use Rattle.lexer.specs.Tokens.{bytes_of};
 ghost use Rattle.schema_grammar.specs.Declarations.{mark_of};
-ghost use Rattle.proof_grammar.specs.Lines.{body, certificate_line_from, stated_dependency, one_premise, two_premises, augmentation_body, maugmentation_body};
+ghost use Rattle.proof_grammar.specs.Lines.{body, certificate_line_from, stated_dependency, one_premise};
+ghost use Rattle.proof_grammar.specs.Lines.{two_premises, augmentation_body, maugmentation_body};
 ghost use Rattle.proof_text.specs.Views.{body_of, line_of};
 
 use crate::words::{colon, rule_name, with_word};

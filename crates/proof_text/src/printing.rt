@@ -11,7 +11,9 @@ ghost use Rattle.derivation.specs.Table.{leaf_conclusion, step_conclusion, pair_
 ghost use Rattle.derivation.specs.Conclusions.{Proves};
 ghost use Rattle.schema_printer.specs.Printing.{set_text, dependency_text};
 ghost use Rattle.proof_text.specs.Views.{body_of, line_of};
-ghost use Rattle.proof_grammar.specs.Printing.{step_word, sides_text, pair_word, body_text, certificate_line_text, leaf_body, numbered_line, node_lines_after, certificate_lines_text, canonical_certificate, IsProof, IsStepWithin, IsBodyWithin};
+ghost use Rattle.proof_grammar.specs.Printing.{step_word, sides_text, pair_word, body_text, certificate_line_text};
+ghost use Rattle.proof_grammar.specs.Printing.{leaf_body, numbered_line, node_lines_after, certificate_lines_text};
+ghost use Rattle.proof_grammar.specs.Printing.{canonical_certificate, IsProof, IsStepWithin, IsBodyWithin};
 
 use crate::line::{Body, Line};
 use attr_sets::AttrSet;

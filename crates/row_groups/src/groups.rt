@@ -7,6 +7,7 @@ ghost use Rattle.row_groups.specs.Pairs.{AreKeptPairs, Gets};
 ghost use Rattle.dep_model.specs.Tuples.{Relation};
 
 use crate::Interned;
+use crate::hashed_pair::HashedPair;
 use crate::interning::MOST_TOGETHER;
 use crate::leaders::numbers_by_leaders;
 use crate::pair_leaders::leaders_of_pairs;
@@ -216,7 +217,7 @@ fn numbers_of_few_pairs(
 // stands among the leads, at the position of the first half: only the other pairs are hashed.
 fn pair_number(
     leads: &mut Vec<(u32, u32)>,
-    others: &mut IndexSet<(u32, u32), Hashing>,
+    others: &mut IndexSet<HashedPair, Hashing>,
     other_numbers: &mut Vec<u32>,
     count: u32,
     pair: (u32, u32),
@@ -240,7 +241,7 @@ fn pair_number(
         Some(number) => return Ok(number),
         None => {}
     }
-    let (place, _) = others.insert_full(pair)?;
+    let (place, _) = others.insert_full(HashedPair { numbers: pair })?;
     if place == other_numbers.len() {
         other_numbers.push(count)?;
         return Ok(count);

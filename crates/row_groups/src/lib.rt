@@ -10,6 +10,7 @@
 
 mod buckets;
 mod groups;
+mod hashed_pair;
 mod interning;
 mod leaders;
 mod pair_buckets;

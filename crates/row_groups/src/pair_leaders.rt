@@ -6,6 +6,7 @@ ghost use Rattle.row_groups.specs.Numberings.{AreNumbered, number_at};
 
 use crate::buckets::BUCKETS;
 use crate::groups::{first_rows, one_group};
+use crate::hashed_pair::HashedPair;
 use crate::leaders::lead_rows;
 use crate::pair_buckets::{PairBucket, pairs_in_buckets};
 use dep_model::OutOfMemory;
@@ -74,7 +75,7 @@ fn pair_numbers(
     let mut set = IndexSet::with_hasher(alloc, hashing);
     let mut numbers = Vec::with_capacity(alloc, pairs.len())?;
     for k in 0..pairs.len() {
-        let (number, _) = set.insert_full(pairs[k])?;
+        let (number, _) = set.insert_full(HashedPair { numbers: pairs[k] })?;
         numbers.push(number as u32)?;
     }
     Ok(numbers)

@@ -1,6 +1,7 @@
 -- Which groups of rows break a dependency, and what stands in them, by numbers: for `Sorted` and `Answers`,
 -- and the functions that they speak of.
-use Rattle.std.specs.Prelude.{◌≡◌, ◌≢◌, ◌+◌, ◌<◌, ◌≤◌, ◌==◌, ◌&&◌, ◌↔◌, ℕ, zero, suc, Bool, true, not, if◌then◌else◌, List, [], ◌++◌, length}
+use Rattle.std.specs.Prelude.{◌≡◌, ◌≢◌, ◌+◌, ◌<◌, ◌≤◌, ◌==◌, ◌&&◌, ◌↔◌, ℕ, zero, suc, Bool, true, not, if◌then◌else◌}
+use Rattle.std.specs.Prelude.{List, [], ◌++◌, length}
 use Rattle.attr_sets.specs.Attributes.{Attributes, count_below}
 use Rattle.row_groups.specs.Numberings.{number_at}
 use Rattle.dep_model.specs.Projections.{members_below}

@@ -1,2 +1,3 @@
+mod PackingLemmas
 pub mod PieceLemmas
 pub mod ProjectionLemmas

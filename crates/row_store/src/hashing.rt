@@ -1,7 +1,8 @@
-ghost use Rattle.std.specs.Prelude.{[], ◌∷◌, nat_eq};
+ghost use Rattle.std.specs.Prelude.{◌≡◌, length, nat_eq};
 ghost use Rattle.std.specs.Cmp.Lexicographic.{pointwise};
 ghost use Rattle.std.specs.Cmp.Rules.{comparing, hashing};
 ghost use Rattle.std.proofs.Common.{rules};
+ghost use Rattle.row_store.specs.Packing.{packed, value_input};
 
 use std::hash::{BuildHasher, DefaultHasher, Hash, Hasher, RandomState};
 use std::random::RandomSource;
@@ -41,7 +42,7 @@ impl BuildHasher for Hashing {
 }
 
 /// A value that is lent. All its bytes are hashed at once, where those of a slice are hashed one by
-/// one.
+/// one; and up to seven bytes as one number, since the hasher takes whole words much faster.
 #[derive(Clone, Copy, Debug)]
 pub struct LentValue<'a> {
     pub bytes: &'a [u8],
@@ -62,11 +63,26 @@ impl<'a> Eq for LentValue<'a> {
 }
 
 impl<'a> Hash for LentValue<'a> {
-    ghost hash_input = { λ x. x.bytes.now ∷ [] };
+    ghost hash_input = { λ x. value_input x.bytes.now };
 
     ghost respects_eq = { Prim.search (hashing, rules) };
 
     fn hash<H: Hasher>(&self, state: &mut H) {
-        state.write(self.bytes);
+        if self.bytes.len() < 8 {
+            state.write_u64(packed(self.bytes));
+        } else {
+            state.write(self.bytes);
+        }
     }
+}
+
+// Up to seven bytes as one number, behind how many they are.
+fn packed(bytes: &[u8]) -> u64
+    ensures packed { result ≡ packed (length bytes.now) bytes.now }
+{
+    let mut sum = bytes.len() as u64;
+    for byte in bytes {
+        sum = sum.wrapping_mul(256).wrapping_add(*byte as u64);
+    }
+    sum
 }

@@ -11,7 +11,4 @@
 
 mod laws;
 
-pub use laws::{
-    engines_hold_relations, missing_values_are_told, queries_tell_dependencies,
-    queries_tell_integers, queries_tell_missing_values, scripts_tell_rules,
-};
+pub use laws::{engines_hold_relations, queries_tell_rules};

@@ -6,7 +6,8 @@ use Rattle.sql_migrate.specs.declared.joining.JoinedTable.{JoinedTable}
 
 -- no table of a list shares an attribute with a set
 abbrev pub ShareNone : Attributes → List JoinedTable → Type 0
-ShareNone seen tables = (table : JoinedTable) → Contains tables table → is_disjoint seen (attributes table.scheme) ≡ true
+ShareNone seen tables =
+    (table : JoinedTable) → Contains tables table → is_disjoint seen (attributes table.scheme) ≡ true
 
 -- of tables in an order, with these attributes before them, one that shares none of the attributes before it
 -- comes only where neither does any that follows it

@@ -1,6 +1,7 @@
 -- What an engine has after a run of the script of `sql migrate` that ended without an error: for the laws of the
 -- script, and for the script itself (`sql_scripts`).
-use Rattle.std.specs.Prelude.{◌≡◌, ℕ, Bool, false, not, ◌&&◌, if◌then◌else◌, Option, Some, None, List, map, filter, Contains}
+use Rattle.std.specs.Prelude.{◌≡◌, ℕ, Bool, false, not, ◌&&◌, if◌then◌else◌, Option, Some, None}
+use Rattle.std.specs.Prelude.{List, map, filter, Contains}
 use Rattle.std.specs.List.{list_all}
 use Rattle.attr_sets.specs.Attributes.{Attributes}
 use Rattle.attr_sets.specs.Sets.{attributes}

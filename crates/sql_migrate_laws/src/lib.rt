@@ -2,7 +2,7 @@
 //! any reason of its own: what a run leaves, when it ends without an error, and the order in which
 //! its view joins the tables. No code.
 //!
-//! Each law is a function that does nothing, whose clause is the law; so the gate asks for its
+//! Each law is a function that does nothing, whose clauses are the law; so the gate asks for its
 //! proof.
 //!
 //! Promises: where a run ends without an error, each table of the design holds the projection on its
@@ -22,7 +22,4 @@ mod moving;
 
 pub use crossing::cross_joins_part_the_plan;
 pub use ending::sound_migrations_end;
-pub use moving::{
-    ended_migrations_had_no_other_columns, ended_migrations_leave_others,
-    ended_migrations_move_tables, failed_migrations_keep_nothing,
-};
+pub use moving::runs_move_all_or_nothing;

@@ -10,38 +10,27 @@ ghost use Rattle.sql_migrate.specs.Script.{migration};
 ghost use Rattle.sql_migrate_laws.specs.Moved.{HasMoved, LeavesOthers};
 
 /// A run over a table that holds a relation, which ends without an error, has moved the relation into the
-/// tables of the design: whatever design it is, and whatever rules the relation breaks.
-pub fn ended_migrations_move_tables()
-    ensures law { (fails : Fails) (cast : Cast) (s : Schema) (name : List ℕ) (cell : ℕ → List ℕ → Cell)
+/// tables of the design: whatever design it is, and whatever rules the relation breaks. Its table has as many
+/// columns as the schema has attributes: over a table with a column more such a run ends with an error. And it
+/// leaves the user's table and every other table and view as they were, and of what it makes only the tables of
+/// the design and the view. A run that ends with an error leaves everything as it was.
+pub fn runs_move_all_or_nothing()
+    ensures moved { (fails : Fails) (cast : Cast) (s : Schema) (name : List ℕ) (cell : ℕ → List ℕ → Cell)
         (r : Relation) (designs : List TableDesign) (start last : State)
         → Holds (engine_at cast start) name s cell r
         → outcome fails cast (migration s name designs) start ≡ ended last
         → HasMoved s cast cell r designs last }
-{}
-
-/// Its table has as many columns as the schema has attributes: over a table with a column more such a run ends with
-/// an error.
-pub fn ended_migrations_had_no_other_columns()
-    ensures law { (fails : Fails) (cast : Cast) (s : Schema) (name : List ℕ) (cell : ℕ → List ℕ → Cell)
+    ensures no_other_columns { (fails : Fails) (cast : Cast) (s : Schema) (name : List ℕ) (cell : ℕ → List ℕ → Cell)
         (r : Relation) (designs : List TableDesign) (start last : State)
         (holds : Holds (engine_at cast start) name s cell r)
         → outcome fails cast (migration s name designs) start ≡ ended last
         → length holds.given.names ≡ width_of s }
-{}
-
-/// And it leaves the user's table and every other table and view as they were, and of what it makes only the tables
-/// of the design and the view.
-pub fn ended_migrations_leave_others()
-    ensures law { (fails : Fails) (cast : Cast) (s : Schema) (name : List ℕ) (cell : ℕ → List ℕ → Cell)
+    ensures others_left { (fails : Fails) (cast : Cast) (s : Schema) (name : List ℕ) (cell : ℕ → List ℕ → Cell)
         (r : Relation) (designs : List TableDesign) (start last : State)
         → Holds (engine_at cast start) name s cell r
         → outcome fails cast (migration s name designs) start ≡ ended last
         → LeavesOthers designs start last }
-{}
-
-/// A run that ends with an error leaves everything as it was.
-pub fn failed_migrations_keep_nothing()
-    ensures law { (fails : Fails) (cast : Cast) (s : Schema) (name : List ℕ) (designs : List TableDesign)
+    ensures nothing_kept { (fails : Fails) (cast : Cast) (s : Schema) (name : List ℕ) (designs : List TableDesign)
         (start kept : State) → outcome fails cast (migration s name designs) start ≡ stopped kept
         → kept ≡ start }
 {}

@@ -82,15 +82,15 @@ empty_members n x empty k low = elim (cases_Bool (x k)) [
   | inr outside ↦ outside
 ]
 
-pub members_told : (n : ℕ) (x : Attributes) (b : Bool) → (IsTrue b ↔ IsEmpty (intersection x (below n))) → not b ≡ is_not_empty (members_below n x)
-members_told n x true told =
-    let empty = told.0 refl in
+pub members_answered : (n : ℕ) (x : Attributes) (b : Bool) → (IsTrue b ↔ IsEmpty (intersection x (below n))) → not b ≡ is_not_empty (members_below n x)
+members_answered n x true answered =
+    let empty = answered.0 refl in
     sym (ap is_not_empty (members_empty n x (λ k low. let none = empty k in grind (arith, nat_tests, none, low))))
-members_told n x false told = elim (cases_Bool (is_not_empty (members_below n x))) [
+members_answered n x false answered = elim (cases_Bool (is_not_empty (members_below n x))) [
   | inl some ↦ sym some
   | inr none ↦
       let each = empty_members n x (nil_not_empty (members_below n x) none) in
-      absurd (true≢false (sym (told.1 (λ (k : ℕ). elim (cases_Bool (nat_lt k n)) [
+      absurd (true≢false (sym (answered.1 (λ (k : ℕ). elim (cases_Bool (nat_lt k n)) [
         | inl low ↦ let out = each k (grind (arith, nat_tests, low)) in grind (arith, out)
         | inr past ↦ grind (arith, nat_tests, past)
       ]))))

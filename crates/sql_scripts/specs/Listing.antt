@@ -12,7 +12,8 @@ use Rattle.sql_check.specs.Columns.{name_at, type_at, compared, named_column, nu
 use Rattle.sql_migrate.specs.Moving.{copied_column}
 use Rattle.sql_check.specs.Checks.{first_count, second_count, count_of_both}
 use Rattle.sql_scripts.specs.declared.listing.Listed.{Listed}
-use Rattle.sql_scripts.specs.declared.listing.Listed.TheVariants.{Compared, Copied, Read, Distinct, GroupMade, Group, GroupShown, ClassGroup}
+use Rattle.sql_scripts.specs.declared.listing.Listed.TheVariants.{Compared, Copied, Read, Distinct, GroupMade, Group}
+use Rattle.sql_scripts.specs.declared.listing.Listed.TheVariants.{GroupShown, ClassGroup}
 use Rattle.sql_scripts.specs.declared.missing.Asked.{Asked}
 use Rattle.sql_scripts.specs.declared.missing.Asked.TheVariants.{Missing, Present}
 use Rattle.sql_scripts.specs.declared.unpaired.Counted.{Counted}

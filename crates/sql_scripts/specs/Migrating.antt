@@ -15,7 +15,8 @@ use Rattle.relation_queries.specs.Queries.{StoredTable, rows_of, plan_join, tabl
 use Rattle.relation_queries.specs.Meanings.{IsGiven, GivesNone}
 use Rattle.sql_migrate.specs.declared.moving.Move.{Move}
 use Rattle.sql_migrate.specs.Moving.{moved_at}
-use Rattle.sql_migrate.specs.Script.{copy_name, view_name, copy_query, fill, width_query, table_rows, viewed_rows, migration}
+use Rattle.sql_migrate.specs.Script.{copy_name, view_name, copy_query, fill, width_query, table_rows, viewed_rows}
+use Rattle.sql_migrate.specs.Script.{migration}
 
 -- the text of a column
 abbrev pub moved_text : Schema → Move → ℕ → List ℕ

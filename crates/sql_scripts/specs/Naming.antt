@@ -1,5 +1,6 @@
 -- The name of a user's table: for `sql check` and `sql migrate` (`desk_scripts/Scripts`).
-use Rattle.std.specs.Prelude.{ℕ, Bool, false, ◌&&◌, ◌||◌, ◌==◌, not, nat_lt, nat_le, Option, Some, None, unwrap_or, List, [], ◌∷◌, length, codes, slice_index}
+use Rattle.std.specs.Prelude.{ℕ, Bool, false, ◌&&◌, ◌||◌, ◌==◌, not, nat_lt, nat_le, Option, Some, None, unwrap_or}
+use Rattle.std.specs.Prelude.{List, [], ◌∷◌, length, codes, slice_index}
 use Rattle.std.specs.Char.{is_ascii_alphabetic}
 use Rattle.std.specs.List.{find, join_by, list_all}
 use Rattle.schema_model.specs.Names.{is_name_byte, quoted}

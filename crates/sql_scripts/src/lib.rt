@@ -3,8 +3,8 @@
 //! `check_script` asks for the rows in which a value is missing, for what is no integer and for
 //! what breaks each rule; its queries are values of `sql_check`, and `sql_check_laws` says what
 //! they give in an engine. `measure_script` counts what breaks each dependency, by values of
-//! `sql_measure`, and `sql_measure_laws` says what these give. `migrate_script` makes the tables of a design from the table, in one
-//! transaction that undoes itself where their join is not the table; its statements are values of
+//! `sql_measure`, and `sql_measure_laws` says what these give. `migrate_script` makes the tables of a design from
+//! the table, in one transaction that undoes itself where their join is not the table; its statements are values of
 //! `sql_migrate`, and `sql_migrate_laws` says what they do in an engine.
 //!
 //! Promises: each query and statement is the text of its value; a script that checks says whether

@@ -10,11 +10,14 @@ ghost use Rattle.sql_syntax.specs.Statements.{create_view, statement_text};
 ghost use Rattle.sql_evaluation.specs.Cells.{Cell};
 ghost use Rattle.sql_evaluation.specs.Running.{State, Cast, Fails, engine_at, ended, stopped, outcome};
 ghost use Rattle.sql_check_laws.specs.HeldRelations.{Holds};
-ghost use Rattle.sql_migrate.specs.Script.{copy_query, view_name, view_query, width_query, table_rows, viewed_rows, migration};
+ghost use Rattle.sql_migrate.specs.Script.{copy_query, view_name, view_query, width_query, table_rows, viewed_rows};
+ghost use Rattle.sql_migrate.specs.Script.{migration};
 ghost use Rattle.sql_migrate_laws.specs.Moved.{HasMoved, LeavesOthers};
 ghost use Rattle.sql_migrate_laws.specs.Ending.{IsSoundRun};
 ghost use Rattle.sql_scripts.specs.Naming.{is_table_name, quoted_table};
-ghost use Rattle.sql_scripts.specs.Migrating.{opening_text, fill_text, lacked_text, gained_text, width_text, test_words, count_text, test_end, testing_text, migrate_text, FillsTables, ViewIsTable};
+ghost use Rattle.sql_scripts.specs.Migrating.{opening_text, fill_text, lacked_text, gained_text, width_text};
+ghost use Rattle.sql_scripts.specs.Migrating.{test_words, count_text, test_end, testing_text, migrate_text};
+ghost use Rattle.sql_scripts.specs.Migrating.{FillsTables, ViewIsTable};
 
 use crate::columns::moved_columns;
 use crate::filling::add_fills;

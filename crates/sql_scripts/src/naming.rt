@@ -5,7 +5,8 @@ ghost use Rattle.schema_model.specs.Names.{is_name_byte, quoted};
 ghost use Rattle.lexer.specs.Tokens.{bytes_in};
 ghost use Rattle.table_names.specs.TableNames.{is_given};
 ghost use Rattle.table_words.specs.Parts.{part_of, parts_of};
-ghost use Rattle.sql_scripts.specs.Naming.{are_parts, dotted_name, is_bare_part, is_part, is_table_name, last_name, last_of, met_name, quoted_table};
+ghost use Rattle.sql_scripts.specs.Naming.{are_parts, dotted_name, is_bare_part, is_part, is_table_name, last_name};
+ghost use Rattle.sql_scripts.specs.Naming.{last_of, met_name, quoted_table};
 
 use byte_texts::add;
 use dep_model::OutOfMemory;

@@ -1,5 +1,5 @@
--- What is left to prove of `largest_without`: that the invariant of its loop holds at first and stays, and its clause, by
--- `LargestLemmas`.
+-- What is left to prove of `largest_without`: that the invariant of its loop holds at first and stays, and its
+-- clause, by `LargestLemmas`.
 use Rattle.std.proofs.Common.{◌+◌, ◌<◌, ℕ, List, Vec, Global, length, get_or, sym, subst}
 use Rattle.attr_sets.specs.Sets.{attributes}
 use Rattle.attr_sets.specs.declared.set.AttrSet.{AttrSet}

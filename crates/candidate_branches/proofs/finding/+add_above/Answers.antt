@@ -1,5 +1,5 @@
--- What is left to prove of `add_above`: what it requires of itself, that the invariant of its loop holds at first and stays,
--- and its clauses, by `FindLemmas`.
+-- What is left to prove of `add_above`: what it requires of itself, that the invariant of its loop holds at first
+-- and stays, and its clauses, by `FindLemmas`.
 use Rattle.std.proofs.Common.{◌≡◌, ◌<◌, List, length, sym, subst, arith}
 use Rattle.std.proofs.lemmas.Bool.Decides.{nat_tests}
 use Rattle.dep_model.specs.Plans.{schemes_of}

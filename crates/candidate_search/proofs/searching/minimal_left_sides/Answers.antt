@@ -1,4 +1,5 @@
--- What is left to prove of `minimal_left_sides`: what `left_sides_of_few` requires, and its clauses where that gives them.
+-- What is left to prove of `minimal_left_sides`: what `left_sides_of_few` requires, and its clauses where that
+-- gives them.
 use Rattle.std.proofs.Common.{◌≡◌, Vec, Global, subst}
 use Rattle.std.specs.Prelude.{All, Option, IfSome}
 use Rattle.candidate_search.specs.Sides.{HasMinimal, rights_of}

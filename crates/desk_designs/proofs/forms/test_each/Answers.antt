@@ -1,4 +1,5 @@
--- What is left to prove of `test_each`: its clauses, and that a round of its loop keeps the invariant, by `first_failing`.
+-- What is left to prove of `test_each`: its clauses, and that a round of its loop keeps the invariant, by
+-- `first_failing`.
 use Rattle.std.proofs.Common.{List, take_all, get_or, sym, ap, subst, ◌∙◌}
 use Rattle.std.proofs.lemmas.List.Elements.{All-push}
 use Rattle.std.specs.Prelude.{All}

@@ -1,4 +1,5 @@
--- What is left to prove of `test_design`: what `missing_exit` requires, and its clauses, by what `missing_refusal` finds.
+-- What is left to prove of `test_design`: what `missing_exit` requires, and its clauses, by what `missing_refusal`
+-- finds.
 use Rattle.std.proofs.Common.{◌≡◌, ◌∙◌, ℕ, List, Some, length, map, subst, ap}
 use Rattle.std.proofs.lemmas.List.{length-map}
 use Rattle.schema_model.specs.Schemas.{nullable_of, width_of}

@@ -1,4 +1,5 @@
--- What is left to prove of `check_references`: what it asks of `judge_reference`, and its clause `response`, step by step.
+-- What is left to prove of `check_references`: what it asks of `judge_reference`, and its clause `response`, step
+-- by step.
 use Rattle.std.specs.Prelude.{All}
 use Rattle.std.proofs.Common.{◌≡◌, ◌<◌, ℕ, List, codes, length, sym, subst, ◌∙◌, arith}
 use Rattle.desk_responses.specs.Responses.{RespondsAs}

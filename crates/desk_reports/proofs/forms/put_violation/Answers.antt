@@ -1,5 +1,5 @@
--- What is left to prove of `put_violation`: what is required of a violation, and its clause, where there is one, none, or
--- the universe is too wide.
+-- What is left to prove of `put_violation`: what is required of a violation, and its clause, where there is one,
+-- none, or the universe is too wide.
 use Rattle.std.proofs.Common.{Option, refl, subst, inl, inr}
 use Rattle.std.proofs.lemmas.Result.{on_ok_weaker}
 use Rattle.attr_sets.specs.Sets.{attributes}

@@ -1,5 +1,5 @@
--- What is left to prove of `put_tables_section`: what is required of the cover and of the plan, and its clause, where there
--- is a plan and where it is refused.
+-- What is left to prove of `put_tables_section`: what is required of the cover and of the plan, and its clause,
+-- where there is a plan and where it is refused.
 use Rattle.std.proofs.Common.{◌≡◌, ℕ, List, [], ◌++◌, Err, codes, refl, sym, ap, subst, append-nil, ◌∙◌, inl, inr}
 use Rattle.std.proofs.lemmas.Result.{on_ok_weaker}
 use Rattle.std.specs.Prelude.{All}

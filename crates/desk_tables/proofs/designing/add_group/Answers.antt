@@ -1,4 +1,5 @@
--- What is left to prove of `add_group`: that a round of its loop keeps the invariant, and that it then has seen all numbers.
+-- What is left to prove of `add_group`: that a round of its loop keeps the invariant, and that it then has seen all
+-- numbers.
 use Rattle.std.proofs.Common.{◌≡◌, ◌+◌, ◌<◌, ◌≤◌, ℕ, true, List, [], ◌∷◌, ◌++◌, length, take, take_all, get_or, subst, ap₂, ◌∙◌}
 use Rattle.design_order.proofs.GroupLemmas.{group_more, group_passed}
 use Rattle.design_order.specs.Order.{with_number}

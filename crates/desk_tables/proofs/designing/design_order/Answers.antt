@@ -1,4 +1,5 @@
--- What is left to prove of `design_order`: schemes lie within the schema, and positions are those of the order of a design.
+-- What is left to prove of `design_order`: schemes lie within the schema, and positions are those of the order of a
+-- design.
 use Rattle.std.proofs.Common.{◌≡◌, ◌∙◌, ◌+◌, ◌<◌, ℕ, true, List, length, All, sym, ap, subst}
 use Rattle.std.proofs.lemmas.List.{length-map}
 use Rattle.std.proofs.lemmas.List.Elements.{All-map}

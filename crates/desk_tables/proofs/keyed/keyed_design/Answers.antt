@@ -1,5 +1,5 @@
--- What is left to prove of `keyed_design`: its clauses `keyed`, `schemes_within` and `lossless`, since the schemes are those
--- of the plan in its order.
+-- What is left to prove of `keyed_design`: its clauses `keyed`, `schemes_within` and `lossless`, since the schemes
+-- are those of the plan in its order.
 use Rattle.std.proofs.Common.{◌≡◌, ℕ, List, map, sym, subst, ◌∙◌}
 use Rattle.std.specs.Prelude.{All}
 use Rattle.std.proofs.lemmas.Result.{IfOk-weaker}

@@ -1,4 +1,5 @@
--- What is left to prove of `keyed_schemes`: that the invariant of its loop holds at first and stays, and what it answers.
+-- What is left to prove of `keyed_schemes`: that the invariant of its loop holds at first and stays, and what it
+-- answers.
 use Rattle.std.proofs.Common.{◌++◌, ◌∷◌, [], List, ap, map, subst, sym, take, ◌∙◌}
 use Rattle.std.specs.Prelude.{All}
 use Rattle.std.proofs.lemmas.List.{map-append, take_more}

@@ -1,5 +1,5 @@
--- What is left to prove of `tables_response`: that keys lie within their schemes, and that the text speaks of the rows that
--- go along with the tables.
+-- What is left to prove of `tables_response`: that keys lie within their schemes, and that the text speaks of the
+-- rows that go along with the tables.
 use Rattle.std.proofs.Common.{List, ℕ, ap, ◌∙◌}
 use Rattle.schema_model.specs.Schemas.{naming_of}
 use Rattle.dep_model.specs.Tuples.{Relation}

@@ -1,5 +1,5 @@
--- What is left to prove of `write_rows`: that a round of its loop keeps the invariant, by `adds_next`, what the lines of
--- all rows are, by `adds_whole`, and where it stops, by `adds_until`.
+-- What is left to prove of `write_rows`: that a round of its loop keeps the invariant, by `adds_next`, what the
+-- lines of all rows are, by `adds_whole`, and where it stops, by `adds_until`.
 use Rattle.std.proofs.Common.{◌≡◌, ℕ, List, ap, arith, length, refl}
 use Rattle.std.specs.Prelude.{Ok}
 use Rattle.destinations.specs.Formats.{row_line}

@@ -1,5 +1,5 @@
--- What is left to prove of `rows_without_match`: that the invariant of its loop holds at first and stays, and its clauses
--- `none` and `some`, by `UnmatchedLemmas`.
+-- What is left to prove of `rows_without_match`: that the invariant of its loop holds at first and stays, and its
+-- clauses `none` and `some`, by `UnmatchedLemmas`.
 use Rattle.std.proofs.Common.{◌≡◌, List, ℕ, Bor, true, false, length, ap, sym, subst, refl, ◌∙◌, arith}
 use Rattle.std.specs.List.{list_all}
 use Rattle.std.specs.Prelude.{Contains}

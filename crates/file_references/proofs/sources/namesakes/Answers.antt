@@ -1,5 +1,5 @@
--- What is left to prove of `namesakes`: where a column has no namesake, and that a round of its loop keeps the invariant,
--- by `SourceLemmas`.
+-- What is left to prove of `namesakes`: where a column has no namesake, and that a round of its loop keeps the
+-- invariant, by `SourceLemmas`.
 use Rattle.std.proofs.Common.{◌+◌, [], ap, get_or, take, List, ℕ, sym, subst, ◌∙◌}
 use Rattle.dep_model.proofs.ListLemmas.{same_default}
 use Rattle.schema_model.specs.Schemas.{attribute_named}

@@ -1,12 +1,18 @@
--- What the loop of `rows_agree` keeps: `agree`.
-use Rattle.std.proofs.Common.{◌≡◌, ◌<◌, ℕ, true}
+-- What the loop of `rows_agree` keeps: `within` and `agree`; and by what it ends.
+use Rattle.std.proofs.Common.{◌≡◌, ℕ, true, false}
+use Rattle.attr_sets.specs.Attributes.{IsSubset, count_below}
 use Rattle.attr_sets.specs.Sets.{attributes}
+use Rattle.attr_sets.specs.declared.set.TheConstants.{MOST_ATTRIBUTES}
 use Rattle.dep_model.specs.Tuples.{value_at}
 use Rattle.row_store.specs.Rows.{row_at}
 use Rattle.legality.proofs.functional.rows_agree.Given as goal
 
--- the two rows agree on the members of the set before the attribute
+-- the two rows agree on the members of the set that are not left
 abbrev pub invariant-loop-attribute : goal.invariant-loop-attribute
 invariant-loop-attribute l = record {
-  agree : (k : ℕ) → k < l.attribute → attributes l.set k ≡ true → value_at (row_at l.rows l.first) k ≡ value_at (row_at l.rows l.second) k;
+  within : IsSubset (attributes l.left) (attributes l.fn.set);
+  agree : (k : ℕ) → attributes l.fn.set k ≡ true → attributes l.left k ≡ false → value_at (row_at l.rows l.first) k ≡ value_at (row_at l.rows l.second) k;
 }
+
+abbrev pub decreases-loop-attribute : goal.decreases-loop-attribute
+decreases-loop-attribute l = count_below (attributes l.left) MOST_ATTRIBUTES

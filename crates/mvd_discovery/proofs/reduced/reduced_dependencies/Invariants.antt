@@ -1,4 +1,5 @@
--- What the loop of `reduced_dependencies` keeps: the left sides before the one that comes were tried; and by what it ends.
+-- What the loop of `reduced_dependencies` keeps: the left sides before the one that comes were tried; and by what
+-- it ends.
 use Rattle.std.specs.Prelude.{IfSome}
 use Rattle.attr_sets.specs.Attributes.{IsSubset, below}
 use Rattle.attr_sets.specs.Sets.{attributes}

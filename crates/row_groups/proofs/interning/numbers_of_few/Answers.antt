@@ -1,6 +1,6 @@
 -- What is left to prove of `numbers_of_few`: its clause `groups` and that a round of its loop keeps
 -- the invariant, by `value_step` and `column_groups`.
-use Rattle.std.proofs.Common.{arith, ◌≡◌, ℕ, List, Bor, map, length, subst}
+use Rattle.std.proofs.Common.{arith, ◌≡◌, ℕ, length, subst}
 use Rattle.dep_model.specs.Tuples.{value_at}
 use Rattle.row_groups.specs.Numberings.{AreNumbered}
 use Rattle.row_store.specs.Rows.{row_at}

@@ -1,5 +1,4 @@
 -- What the loop of `numbers_of_few` keeps: `numbered`.
-use Rattle.std.proofs.Common.{ℕ, List, map, Bor}
 use Rattle.dep_model.specs.Tuples.{value_at}
 use Rattle.row_groups.specs.Numberings.{AreNumbered}
 use Rattle.row_groups.proofs.NumberingLemmas.{lent_bytes}

@@ -1,5 +1,5 @@
 -- What is left to prove of `value_numbers`: that its loop keeps the values numbered, by `value_step`, and its clause.
-use Rattle.std.proofs.Common.{arith, ◌≡◌, ℕ, List, [], Bor, map, length, get_or, subst}
+use Rattle.std.proofs.Common.{arith, ◌≡◌, ℕ, [], length, get_or, subst}
 use Rattle.row_groups.specs.Numberings.{AreNumbered}
 use Rattle.row_groups.proofs.NumberingLemmas.{lent_bytes, value_step}
 use Rattle.row_groups.proofs.leaders.value_numbers.Goals as goal

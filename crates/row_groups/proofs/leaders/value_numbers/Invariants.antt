@@ -1,5 +1,5 @@
 -- What the loop of `value_numbers` keeps: the values so far are numbered.
-use Rattle.std.proofs.Common.{ℕ, List, [], map, Bor, get_or}
+use Rattle.std.proofs.Common.{[], get_or}
 use Rattle.row_groups.specs.Numberings.{AreNumbered}
 use Rattle.row_groups.proofs.NumberingLemmas.{lent_bytes}
 use Rattle.row_groups.proofs.leaders.value_numbers.Given as goal

@@ -1,4 +1,5 @@
--- What is left to prove of `complete_rows`: its clause `text`, by the attributes of the key of which a value may be missing.
+-- What is left to prove of `complete_rows`: its clause `text`, by the attributes of the key of which a value may be
+-- missing.
 use Rattle.std.proofs.Common.{◌≡◌, ◌∙◌, ap, subst}
 use Rattle.std.specs.Prelude.{IfOk}
 use Rattle.attr_sets.specs.Attributes.{Attributes, intersection}

@@ -18,17 +18,17 @@ loop-design-preserved c =
     let designs = c.args.designs.now in
     let i = c.loop-design.design-index in
     let table = c.design-item.result in
-    let told : c.is_optional-optional.result ≡ is_optional (nullable_of s) (keyed table) =
+    let answered : c.is_optional-optional.result ≡ is_optional (nullable_of s) (keyed table) =
     c.is_optional-optional.ensures.optional
     ∙ ap (λ (x : Attributes). is_optional x c.keyed.result) c.nullable.ensures.nullable
     ∙ ap (is_optional (nullable_of s)) c.keyed.ensures.keyed in
     elim c.if-not-optional.branch [
       | then-not-optional+in_ok-push w ↦ rw w.tables-is
           (filled_more s designs i table c.loop-design.tables.items _ c.loop-design-test.true c.design-item.is
-          (ap not (sym told ∙ w.if-not-optional.true)) c.loop-design.invariant w.in_ok-push.ensures.items)
+          (ap not (sym answered ∙ w.if-not-optional.true)) c.loop-design.invariant w.in_ok-push.ensures.items)
       | else-not-optional w ↦ rw w.tables-is
           (filled_passed s designs i table c.loop-design.tables.items c.loop-design-test.true c.design-item.is
-          (ap not (sym told ∙ w.if-not-optional.false)) c.loop-design.invariant)
+          (ap not (sym answered ∙ w.if-not-optional.false)) c.loop-design.invariant)
     ]
 
 pub returns : goal.returns
