@@ -12,13 +12,23 @@ use Rattle.desk_inputs.proofs.BegunLemmas.{front_later, front_longer, front_none
 use Rattle.desk_inputs.proofs.ReadingLemmas.{Shows-later}
 
 -- a call that reads nothing
-pub reads_none : {S : Type 0} (source : FileSource S) (old : S) (names : List (List ℕ)) (Holds : Reading → Type 0)
-    → ((r : Reading) → Holds r) → Reads source old old names Holds
-reads_none source old names Holds all = record {
+pub reads_none : {S : Type 0} {source : FileSource S} {old : S} {names : List (List ℕ)} {Holds : Reading → Type 0} → ((r : Reading) → Holds r)
+    → Reads source old old names Holds
+reads_none {S} {source} {old} {names} {Holds} holds = record {
   files = refl;
   later = omega arith;
   begins = front_none names (source.begun old);
-  ends = λ r shows. all r;
+  ends = λ r shows. holds r;
+}
+
+-- what holds under each reading may be said otherwise
+pub reads_so : {S : Type 0} {source : FileSource S} {old new : S} {names : List (List ℕ)} {Holds : Reading → Type 0} (Also : Reading → Type 0) → ((r : Reading) → Holds r → Also r)
+    → Reads source old new names Holds → Reads source old new names Also
+reads_so {S} {source} {old} {new} {names} {Holds} Also so reads = record {
+  files = reads.files;
+  later = reads.later;
+  begins = reads.begins;
+  ends = λ r shows. so r (reads.ends r shows);
 }
 
 -- the reading of files ends a command, whatever was to be read after them
