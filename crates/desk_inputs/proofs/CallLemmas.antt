@@ -31,7 +31,18 @@ reads_so {S} {source} {old} {new} {names} {Holds} Also so reads = record {
   ends = λ r shows. so r (reads.ends r shows);
 }
 
--- the reading of files ends a command, whatever was to be read after them
+-- the reading of files ends a command
+pub not_opened : {S V W : Type 0} {source : FileSource S} {old new : S} {names : List (List ℕ)} {Means : Reading → W → Type 0} {Stops : Reading → Allowed} {view : V → W} {exit : EarlyExit}
+    (rest : Reading → W → Allowed) → Opens source old new names Means Stops view (Err exit)
+    → Reads source old new names (λ r. RespondsAs (With (Stops r) (Means r) (rest r)) (Err exit))
+not_opened {S} {V} {W} {source} {old} {new} {names} {Means} {Stops} {view} {exit} rest opens = record {
+  files = opens.reads.files;
+  later = opens.reads.later;
+  begins = opens.reads.begins;
+  ends = λ r shows response is. inl (opens.reads.ends r shows response is);
+}
+
+-- the reading of files ends a command, and others that were to be read after them are not begun
 pub stopped : {S V W : Type 0} {source : FileSource S} {old new : S} {names : List (List ℕ)} {Means : Reading → W → Type 0} {Stops : Reading → Allowed} {view : V → W} {exit : EarlyExit}
     (more : List (List ℕ)) (rest : Reading → W → Allowed) → Opens source old new names Means Stops view (Err exit)
     → Reads source old new (names ++ more) (λ r. RespondsAs (With (Stops r) (Means r) (rest r)) (Err exit))

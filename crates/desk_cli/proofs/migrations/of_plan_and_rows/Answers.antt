@@ -6,7 +6,7 @@ use Rattle.desk_inputs.specs.FileKinds.{WithFile}
 use Rattle.desk_inputs.specs.Readings.{Reading}
 use Rattle.desk_inputs.specs.Rows.{rows_file}
 use Rattle.desk_responses.specs.Responses.{RespondsAs}
-use Rattle.desk_inputs.proofs.CallLemmas.{opened, opened_then, stopped}
+use Rattle.desk_inputs.proofs.CallLemmas.{not_opened, opened, opened_then, stopped}
 use Rattle.desk_cli.proofs.migrations.of_plan_and_rows.Goals as goal
 
 pub returns-in-Err : goal.returns-in-Err
@@ -27,7 +27,7 @@ returns-in-Err-open_rows g c =
       reads = opened_then
           (λ (r : Reading) (plan : NamedSchemes). WithFile (rows_file s) r c.args.file.now (MigratesPlanHere s plan.names plan.schemes read))
           (Err c.in-Err-open_rows.exit) c.in-Ok.ensures.opens
-          (stopped [] (λ (r : Reading). MigratesPlanHere s plan.names plan.schemes read) c.in-Err-open_rows.ensures.opens);
+          (not_opened (λ (r : Reading). MigratesPlanHere s plan.names plan.schemes read) c.in-Err-open_rows.ensures.opens);
     }
 
 pub returns : goal.returns

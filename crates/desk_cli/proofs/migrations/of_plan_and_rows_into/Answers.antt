@@ -8,7 +8,7 @@ use Rattle.desk_inputs.specs.FileKinds.{WithFile}
 use Rattle.desk_inputs.specs.Readings.{Reading}
 use Rattle.desk_inputs.specs.Rows.{rows_file}
 use Rattle.desk_responses.specs.Responses.{RespondsAs}
-use Rattle.desk_inputs.proofs.CallLemmas.{opened, opened_then, stopped}
+use Rattle.desk_inputs.proofs.CallLemmas.{not_opened, opened, opened_then, stopped}
 use Rattle.desk_cli.proofs.migrations.of_plan_and_rows_into.Goals as goal
 
 pub returns-in-Err : goal.returns-in-Err
@@ -29,7 +29,7 @@ returns-in-Err-open_rows g c =
       reads = opened_then
           (λ (r : Reading) (plan : NamedSchemes). WithFile (rows_file s) r c.args.file.now (MigratesPlanInto looks s plan.names plan.schemes c.args.folder.now))
           (Err c.in-Err-open_rows.exit) c.in-Ok.ensures.opens
-          (stopped [] (λ (r : Reading). MigratesPlanInto looks s plan.names plan.schemes c.args.folder.now) c.in-Err-open_rows.ensures.opens);
+          (not_opened (λ (r : Reading). MigratesPlanInto looks s plan.names plan.schemes c.args.folder.now) c.in-Err-open_rows.ensures.opens);
     }
 
 pub returns : goal.returns

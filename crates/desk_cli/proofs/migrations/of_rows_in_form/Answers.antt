@@ -2,8 +2,12 @@
 use Rattle.std.proofs.Common.{ℕ, List, [], ◌∷◌, subst}
 use Rattle.desk_tables.specs.Overwriting.{MigratesHere}
 use Rattle.desk_responses.specs.Responses.{RespondsAs}
-use Rattle.desk_inputs.proofs.CallLemmas.{opened}
+use Rattle.desk_inputs.specs.Readings.{Reading}
+use Rattle.desk_inputs.proofs.CallLemmas.{not_opened, opened}
 use Rattle.desk_cli.proofs.migrations.of_rows_in_form.Goals as goal
+
+pub returns-in-Err : goal.returns-in-Err
+returns-in-Err g c = record { reads = not_opened (λ (r : Reading). MigratesHere c.args.schema.now c.args.form (c.args.own.now ∷ c.args.file.now ∷ [])) c.in-Err.ensures.opens }
 
 pub returns : goal.returns
 returns g c =

@@ -3,8 +3,12 @@ use Rattle.std.proofs.Common.{ℕ, List, subst}
 use Rattle.std.specs.Prelude.{IsTrue}
 use Rattle.desk_tables.specs.OwnFolders.{MigratesInto}
 use Rattle.desk_outside.specs.FreeNames.{may_be_free}
-use Rattle.desk_inputs.proofs.CallLemmas.{opened}
+use Rattle.desk_inputs.specs.Readings.{Reading}
+use Rattle.desk_inputs.proofs.CallLemmas.{not_opened, opened}
 use Rattle.desk_cli.proofs.migrations.of_rows_into.Goals as goal
+
+pub returns-in-Err : goal.returns-in-Err
+returns-in-Err g c = record { reads = not_opened (λ (r : Reading). MigratesInto (may_be_free (g.G.Folder.state c.args.place.now).contents) c.args.schema.now c.args.form c.args.folder.now) c.in-Err.ensures.opens }
 
 pub returns : goal.returns
 returns g c =

@@ -4,8 +4,12 @@ use Rattle.headed_rows.specs.Headings.{headed_of}
 use Rattle.headed_rows.specs.declared.headed_rows.Headed.{Headed}
 use Rattle.desk_references.specs.Findings.{FindsReferences}
 use Rattle.desk_responses.specs.Responses.{RespondsAs}
-use Rattle.desk_inputs.proofs.CallLemmas.{opened}
+use Rattle.desk_inputs.specs.Readings.{Reading}
+use Rattle.desk_inputs.proofs.CallLemmas.{not_opened, opened}
 use Rattle.desk_cli.proofs.references.of_headed_files.Goals as goal
+
+pub returns-in-Err : goal.returns-in-Err
+returns-in-Err g c = record { reads = not_opened (λ (r : Reading). FindsReferences c.args.files.now) c.in-Err.ensures.opens }
 
 pub returns : goal.returns
 returns g c =

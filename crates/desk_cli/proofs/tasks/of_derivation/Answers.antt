@@ -5,8 +5,12 @@ use Rattle.derivation_text.specs.Views.{derivation_lines_of}
 use Rattle.derivation_text.specs.declared.line.DerivationLine as code
 use Rattle.desk_implication.specs.Derivations.{ChecksDerivation}
 use Rattle.desk_responses.specs.Responses.{RespondsAs}
-use Rattle.desk_inputs.proofs.CallLemmas.{opened}
+use Rattle.desk_inputs.specs.Readings.{Reading}
+use Rattle.desk_inputs.proofs.CallLemmas.{not_opened, opened}
 use Rattle.desk_cli.proofs.tasks.of_derivation.Goals as goal
+
+pub returns-in-Err : goal.returns-in-Err
+returns-in-Err g c = record { reads = not_opened (λ (r : Reading) (lines : List DerivationLine). ChecksDerivation c.args.schema.now lines c.args.goal.now) c.in-Err.ensures.opens }
 
 pub returns : goal.returns
 returns g c = record {

@@ -1,12 +1,12 @@
 -- What is left to prove of `of_values`: its clause `reads`.
-use Rattle.std.proofs.Common.{ℕ, List, [], Ok, Err, Result}
+use Rattle.std.proofs.Common.{ℕ, List, Ok, Err, Result}
 use Rattle.dep_model.specs.Tuples.{Relation}
 use Rattle.schema_model.specs.Schemas.{Schema}
 use Rattle.desk_cli.specs.Performs.{WithValues}
 use Rattle.desk_inputs.specs.FileKinds.{WithFile}
 use Rattle.desk_inputs.specs.Readings.{Reading}
 use Rattle.desk_inputs.specs.Rows.{rows_file}
-use Rattle.desk_inputs.proofs.CallLemmas.{opened, reads_none, reads_so, stopped}
+use Rattle.desk_inputs.proofs.CallLemmas.{not_opened, opened, reads_none, reads_so}
 use Rattle.desk_measures.specs.Measures.{MeasuresRows}
 use Rattle.desk_measures.specs.Untyped.{HasTextsAlone}
 use Rattle.desk_responses.specs.ResponseValues.{Allowed}
@@ -33,7 +33,7 @@ returns-in-Err-open_rows g c =
     record {
       reads = reads_so (λ (r : Reading). RespondsAs (WithValues r s file (MeasuresRows s)) result)
           (values_found s c.in-Ok.texts file (MeasuresRows s) result c.in-Ok.ensures.texts)
-          (stopped [] (λ (r : Reading). MeasuresRows s) c.in-Err-open_rows.ensures.opens);
+          (not_opened (λ (r : Reading). MeasuresRows s) c.in-Err-open_rows.ensures.opens);
     }
 
 pub returns : goal.returns

@@ -6,7 +6,7 @@ use Rattle.desk_responses.specs.ResponseValues.{Says}
 use Rattle.desk_inputs.specs.Headed.{headed_file_for, headed_refusal_text}
 use Rattle.desk_responses.specs.declared.status.Status.TheVariants.{Refused}
 use Rattle.desk_responses.specs.Responses.{ExitsAs}
-use Rattle.desk_inputs.proofs.KindLemmas.{file_read, file_refused}
+use Rattle.desk_inputs.proofs.KindLemmas.{file_not_loaded, file_read, file_refused}
 use Rattle.desk_inputs.proofs.headed.open_headed_for.Goals as goal
 
 pub returns-in-Ok-read_headed-clause-opens : goal.returns-in-Ok-read_headed-clause-opens
@@ -21,3 +21,6 @@ returns-in-Err-Refused-clause-opens g c =
     let refused = subst (λ (bytes : List ℕ). IsRefusedWithin c.args.limits bytes refusal) c.deref.ensures.value refuses in
     let exits_as = subst (λ (name : List ℕ). ExitsAs (Says Refused (headed_refusal_text c.args.command.now name refusal)) c.headed_refusal_exit.result) c.bytes.ensures.bytes c.headed_refusal_exit.ensures.says in
     file_refused (headed_file_for c.args.command.now c.args.limits) refusal c.in-Ok.ensures.loads refused exits_as
+
+pub returns-in-Err-clause-opens : goal.returns-in-Err-clause-opens
+returns-in-Err-clause-opens g c = file_not_loaded (headed_file_for c.args.command.now c.args.limits) c.in-Err.ensures.loads

@@ -7,7 +7,7 @@ use Rattle.desk_responses.specs.Responses.{ExitsAs}
 use Rattle.desk_responses.specs.ResponseValues.{Says}
 use Rattle.desk_inputs.specs.Rows.{row_refusal_text}
 use Rattle.desk_responses.specs.declared.status.Status.TheVariants.{Refused}
-use Rattle.desk_inputs.proofs.KindLemmas.{file_read, file_refused}
+use Rattle.desk_inputs.proofs.KindLemmas.{file_not_loaded, file_read, file_refused}
 use Rattle.desk_inputs.specs.Parts.{part_file}
 use Rattle.desk_inputs.proofs.parts.open_part.Goals as goal
 
@@ -30,3 +30,6 @@ returns-in-Err-Refused-clause-opens g c =
     let refused = subst (λ (bytes : List ℕ). PartOf s bytes (Err refusal)) c.deref.ensures.value refuses in
     let exits_as = subst (λ (name : List ℕ). ExitsAs (Says Refused (row_refusal_text s name refusal)) c.rows_refusal_exit.result) c.bytes.ensures.bytes c.rows_refusal_exit.ensures.says in
     file_refused (part_file s) refusal c.in-Ok.ensures.loads refused exits_as
+
+pub returns-in-Err-clause-opens : goal.returns-in-Err-clause-opens
+returns-in-Err-clause-opens g c = file_not_loaded (part_file c.args.schema.now) c.in-Err.ensures.loads

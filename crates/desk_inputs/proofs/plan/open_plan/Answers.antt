@@ -15,7 +15,7 @@ use Rattle.desk_responses.specs.ResponseValues.{Says}
 use Rattle.desk_inputs.specs.Plans.{plan_file, plan_refusal_text}
 use Rattle.desk_responses.specs.declared.status.Status.TheVariants.{Refused}
 use Rattle.desk_responses.specs.Responses.{ExitsAs}
-use Rattle.desk_inputs.proofs.KindLemmas.{file_read, file_refused}
+use Rattle.desk_inputs.proofs.KindLemmas.{file_not_loaded, file_read, file_refused}
 use Rattle.desk_inputs.proofs.plan.open_plan.Goals as goal
 
 pub returns-in-Ok-read_plan-clause-opens : goal.returns-in-Ok-read_plan-clause-opens
@@ -47,3 +47,6 @@ returns-in-Err-Refused-clause-opens g c =
     let refused = subst (λ (bytes : List ℕ). RefusesPlan (naming_of s) (names_of s) bytes refusal) c.deref.ensures.value refuses in
     let exits_as = subst (λ (name : List ℕ). ExitsAs (Says Refused (plan_refusal_text (printed_names_of s) name refusal)) c.plan_refusal_exit.result) c.bytes.ensures.bytes c.plan_refusal_exit.ensures.says in
     file_refused (plan_file s) refusal c.in-Ok.ensures.loads refused exits_as
+
+pub returns-in-Err-clause-opens : goal.returns-in-Err-clause-opens
+returns-in-Err-clause-opens g c = file_not_loaded (plan_file c.args.schema.now) c.in-Err.ensures.loads

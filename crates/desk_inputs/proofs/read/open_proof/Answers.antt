@@ -11,7 +11,7 @@ use Rattle.desk_responses.specs.ResponseValues.{Says}
 use Rattle.desk_responses.specs.declared.status.Status.TheVariants.{Refused}
 use Rattle.desk_refusals.specs.ProofTexts.{proof_refusal_text}
 use Rattle.desk_responses.specs.Responses.{ExitsAs}
-use Rattle.desk_inputs.proofs.KindLemmas.{file_read, file_refused}
+use Rattle.desk_inputs.proofs.KindLemmas.{file_not_loaded, file_read, file_refused}
 use Rattle.desk_inputs.specs.Inputs.{proof_file}
 use Rattle.desk_inputs.proofs.read.open_proof.Goals as goal
 
@@ -33,3 +33,6 @@ returns-in-Err-Refused-clause-opens g c =
     let of_bytes = subst (λ (bytes : List ℕ). RefusesProof s bytes refusal) c.deref.ensures.value refused in
     let exits_as = subst (λ (name : List ℕ). ExitsAs (Says Refused (proof_refusal_text (printed_names_of s) name (line_diagnostic_of refusal))) c.proof_refusal_exit.result) c.bytes.ensures.bytes c.proof_refusal_exit.ensures.says in
     file_refused (proof_file s) (line_diagnostic_of refusal) c.in-Ok.ensures.loads of_bytes exits_as
+
+pub returns-in-Err-clause-opens : goal.returns-in-Err-clause-opens
+returns-in-Err-clause-opens g c = file_not_loaded (proof_file c.args.schema.now) c.in-Err.ensures.loads
