@@ -1,3 +1,4 @@
+mod CodeLemmas
 pub mod PairLemmas
 pub mod CountLemmas
 pub mod PartLemmas

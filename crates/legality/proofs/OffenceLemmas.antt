@@ -1,9 +1,11 @@
 -- The offences of a list of dependencies, one after the other.
-use Rattle.std.proofs.Common.{inl, inr, ◌≡◌, ◌+◌, ◌<◌, ◌≤◌, Option, Some, None, ℕ, zero, suc, List, [], ◌∷◌, ◌++◌, length, take, get_or, refl, sym, ap, subst, ◌∙◌, arith}
+use Rattle.std.proofs.Common.{inl, inr, ◌≡◌, ◌+◌, ◌<◌, ◌≤◌, ◌↔◌, Option, Some, None, ℕ, zero, suc, List, [], ◌∷◌, ◌++◌, length, take, get_or, refl, sym, ap, subst, ◌∙◌, arith}
 use Rattle.std.specs.Prelude.{All}
 use Rattle.std.proofs.lemmas.List.{length-map, length-take-le, take_all}
 use Rattle.attr_sets.specs.Attributes.{below}
-use Rattle.dep_model.specs.Tuples.{Relation}
+use Rattle.dep_model.specs.Tuples.{Relation, IsOver}
+use Rattle.dep_model.specs.Theories.{LegalFor, theory_of, width_of}
+use Rattle.dep_model.specs.declared.theory.Theory.{Theory}
 use Rattle.dep_model.specs.Dependencies.{Dependency, fd, mvd, Obeys}
 use Rattle.dep_model.specs.Deps.{dependency_of, dependencies_of, IsDepWithin}
 use Rattle.dep_model.specs.declared.dep.Dep.{Dep}
@@ -103,3 +105,11 @@ obeyed_none n r k (d ∷ ds) os (inl h) all = obeyed_none n r (k + 1) ds os h.1 
 obeyed_none n r k (d ∷ ds) os (inr (o, rest, at, is, h)) all =
     let (number, i, j, least, first, second) = is in
     absurd (not_obeyed n r d i j least.breaks (all 0 d (omega arith)))
+
+-- no offence is there exactly where the rows are legal
+pub none_legal : (theory : Theory) (r : Relation) (os : List Offence) → IsOver (width_of theory) r
+    → OffencesFrom (width_of theory) r 0 (theory_of theory) os → (os ≡ []) ↔ LegalFor theory r
+none_legal theory r os over all = (
+  (λ e. record { over = over; obeys = none_obeyed (width_of theory) r 0 (theory_of theory) os all e }),
+  (λ legal. obeyed_none (width_of theory) r 0 (theory_of theory) os all legal.obeys),
+)

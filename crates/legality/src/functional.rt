@@ -1,43 +1,40 @@
-ghost use Rattle.std.specs.Prelude.{◌≡◌, ◌<◌, ◌≤◌, true, false, length, Some, None, IfOk};
+ghost use Rattle.std.specs.Prelude.{◌≡◌, ◌<◌, ◌≤◌, true, false, Some, None, IfOk};
 ghost use Rattle.attr_sets.specs.Attributes.{IsSubset, below};
 ghost use Rattle.attr_sets.specs.Sets.{attributes};
-ghost use Rattle.row_groups.specs.Interning.{IsInterned};
-ghost use Rattle.row_store.specs.Rows.{row_at};
+ghost use Rattle.row_groups.specs.Interning.{IsInterned, count_of, width_of_rows};
 ghost use Rattle.dep_model.specs.Dependencies.{fd};
-ghost use Rattle.dep_model.specs.Tuples.{AgreeOn};
-ghost use Rattle.legality.specs.Answers.{IsLeastOffence};
+ghost use Rattle.dep_model.specs.Tuples.{Relation};
+ghost use Rattle.legality.specs.Answers.{AreCodesOfRows, HaveSameCodes, IsLeastOffence};
 ghost use Rattle.legality.specs.declared.pair.Pair.{Pair};
 
 use crate::pair::Pair;
 use attr_sets::{AttrSet, MOST_ATTRIBUTES};
 use dep_model::OutOfMemory;
 use row_groups::{Groups, Interned};
-use row_store::Rows;
 use std::alloc::Global;
 
 // The least pair of rows that agree on `lhs` and differ on `rhs`. Its first row is the first of its
 // group.
 pub fn least_functional_pair(
     alloc: Global,
-    rows: &Rows,
     width: u8,
     codes: &Interned,
     lhs: AttrSet,
     rhs: AttrSet,
 ) -> Result<Option<Pair>, OutOfMemory>
     requires width { width ≤ MOST_ATTRIBUTES }
-    requires codes { IsInterned width rows.now codes.now }
+    requires codes { AreCodesOfRows width codes.now }
     requires lhs { IsSubset (attributes lhs) (below width) }
     requires rhs { IsSubset (attributes rhs) (below width) }
-    ensures pair { IfOk result (λ least. IsLeastOffence width rows.now (fd (attributes lhs)
-        (attributes rhs)) least) }
+    ensures pair { (rows : Relation) → IsInterned width rows codes.now → IfOk result
+        (λ least. IsLeastOffence width rows (fd (attributes lhs) (attributes rhs)) least) }
 {
     let groups = Groups::by_agreement(alloc, codes, lhs)?;
     let mut least = None;
-    for second in 0..rows.len() {
+    for second in 0..codes.count() {
         let group = groups.numbers()[second] as usize;
         let first = groups.firsts()[group] as usize;
-        if !rows_agree(rows, width, codes, rhs, first, second) {
+        if !rows_agree(codes, rhs, first, second) {
             least = earlier_of(least, Pair { first, second });
         }
     }
@@ -63,23 +60,13 @@ fn earlier_of(least: Option<Pair>, pair: Pair) -> Option<Pair>
 }
 
 // Whether two rows agree on a set.
-fn rows_agree(
-    rows: &Rows,
-    width: u8,
-    codes: &Interned,
-    set: AttrSet,
-    first: usize,
-    second: usize,
-) -> bool
-    requires width { width ≤ MOST_ATTRIBUTES }
-    requires codes { IsInterned width rows.now codes.now }
-    requires set { IsSubset (attributes set) (below width) }
-    requires first { first < length rows.now }
-    requires second { second < length rows.now }
-    ensures agree { result ≡ true
-        → AgreeOn (attributes set) (row_at rows.now first) (row_at rows.now second) }
+fn rows_agree(codes: &Interned, set: AttrSet, first: usize, second: usize) -> bool
+    requires set { IsSubset (attributes set) (below (width_of_rows codes.now)) }
+    requires first { first < count_of codes.now }
+    requires second { second < count_of codes.now }
+    ensures agree { result ≡ true → HaveSameCodes codes.now (attributes set) first second }
     ensures differ { result ≡ false
-        → AgreeOn (attributes set) (row_at rows.now first) (row_at rows.now second) → ⊥ }
+        → HaveSameCodes codes.now (attributes set) first second → ⊥ }
 {
     let mut left = set;
     while let Some(attribute) = left.first() {

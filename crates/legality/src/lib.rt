@@ -1,7 +1,7 @@
 //! Which rows break which dependency of a schema.
 //!
 //! `offences` looks at rows by numbers in place of values, group by group, and never at all pairs
-//! of rows.
+//! of rows. `offences_of_own_rows` takes the rows, and lets them go as soon as they have numbers.
 //!
 //! `part_counts` counts the parts of groups, for the crates above too.
 //!
@@ -19,6 +19,6 @@ mod offence;
 mod pair;
 
 pub use counting::{part_counts, zero_counts};
-pub use finding::offences;
+pub use finding::{offences, offences_of_own_rows};
 pub use laws::{offences_name_dependencies, one_list_of_offences};
 pub use offence::Offence;

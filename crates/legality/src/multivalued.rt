@@ -3,7 +3,8 @@ ghost use Rattle.attr_sets.specs.Attributes.{IsSubset, below};
 ghost use Rattle.attr_sets.specs.Sets.{attributes};
 ghost use Rattle.row_groups.specs.Interning.{IsInterned};
 ghost use Rattle.dep_model.specs.Dependencies.{mvd};
-ghost use Rattle.legality.specs.Answers.{IsLeastOffence};
+ghost use Rattle.dep_model.specs.Tuples.{Relation};
+ghost use Rattle.legality.specs.Answers.{AreCodesOfRows, IsLeastOffence};
 ghost use Rattle.legality.specs.Parts.{AreBelow, AreBeside, IsFirstMissing, IsFirstShort};
 
 use crate::counting::part_counts;
@@ -11,7 +12,6 @@ use crate::pair::Pair;
 use attr_sets::{AttrSet, MOST_ATTRIBUTES};
 use dep_model::OutOfMemory;
 use row_groups::{Groups, Interned};
-use row_store::Rows;
 use std::alloc::Global;
 
 // The least pair of rows that agree on `lhs` and have no row that is the first on `lhs` and `rhs`
@@ -19,18 +19,17 @@ use std::alloc::Global;
 // beside its left and right side than there are in its group.
 pub fn least_multivalued_pair(
     alloc: Global,
-    rows: &Rows,
     width: u8,
     codes: &Interned,
     lhs: AttrSet,
     rhs: AttrSet,
 ) -> Result<Option<Pair>, OutOfMemory>
     requires width { width ≤ MOST_ATTRIBUTES }
-    requires codes { IsInterned width rows.now codes.now }
+    requires codes { AreCodesOfRows width codes.now }
     requires lhs { IsSubset (attributes lhs) (below width) }
     requires rhs { IsSubset (attributes rhs) (below width) }
-    ensures pair { IfOk result (λ least.
-        IsLeastOffence width rows.now (mvd (attributes lhs) (attributes rhs)) least) }
+    ensures pair { (rows : Relation) → IsInterned width rows codes.now → IfOk result
+        (λ least. IsLeastOffence width rows (mvd (attributes lhs) (attributes rhs)) least) }
 {
     let universe = AttrSet::full(width);
     let sides = lhs.union(rhs);
