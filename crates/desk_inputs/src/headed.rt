@@ -5,8 +5,6 @@ ghost use Rattle.headed_rows.specs.Headings.{headed_of};
 ghost use Rattle.row_store.specs.declared.limits.TheConstants.{MOST_HEADED_ROWS};
 ghost use Rattle.desk_inputs.specs.FileCalls.{OpensFile};
 ghost use Rattle.desk_inputs.specs.Headed.{command_for, file_for, headed_file_for, headed_refusal_text, limits_for};
-ghost use Rattle.desk_responses.specs.ResponseValues.{Says};
-ghost use Rattle.desk_responses.specs.Responses.{ExitsAs};
 
 use crate::read::open_file;
 use crate::rows::MOST_CSV_BYTES;
@@ -111,29 +109,12 @@ fn open_headed_for<F: FileSource>(
     };
     match read_headed(alloc, limits, &bytes) {
         Ok(headed) => Ok(headed),
-        Err(Failure::Refused(refusal)) => Err(headed_refusal_exit(
-            alloc,
-            command,
-            name.bytes(),
-            refusal,
+        Err(Failure::Refused(refusal)) => Err(EarlyExit::with_text(
+            Status::Refused,
+            headed_refusal_line(alloc, command, name.bytes(), refusal),
         )),
         Err(Failure::OutOfMemory) => Err(EarlyExit::OutOfMemory),
     }
-}
-
-// A command that ends with the refusal of such a file.
-fn headed_refusal_exit(
-    alloc: Global,
-    command: &[u8],
-    name: &[u8],
-    refusal: HeaderRefusal,
-) -> EarlyExit
-    ensures says { ExitsAs (Says Status.Refused (headed_refusal_text command.now name.now refusal)) result }
-{
-    EarlyExit::with_text(
-        Status::Refused,
-        headed_refusal_line(alloc, command, name, refusal),
-    )
 }
 
 // The line that words a refusal.

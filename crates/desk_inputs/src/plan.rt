@@ -9,10 +9,8 @@ ghost use Rattle.plans.specs.Plans.{plan_of, scheme_sets, IsPlanOver};
 ghost use Rattle.plan_grammar.specs.RefusalTexts.{plan_reason_text};
 ghost use Rattle.plans.specs.declared.bounds.TheConstants.{MOST_SCHEMES};
 ghost use Rattle.plan_grammar.specs.declared.refusal.PlanRefusal.TheVariants as refusals;
-ghost use Rattle.desk_responses.specs.ResponseValues.{Says};
 ghost use Rattle.desk_inputs.specs.FileCalls.{OpensFile};
 ghost use Rattle.desk_inputs.specs.Plans.{plan_file, plan_refusal_text};
-ghost use Rattle.desk_responses.specs.Responses.{ExitsAs};
 
 use crate::read::open_file;
 use arguments::Argument;
@@ -47,11 +45,9 @@ pub fn open_plan<F: FileSource>(
     };
     match read_plan(alloc, schema, &bytes) {
         Ok(plan) => Ok(in_order(alloc, schema, plan)?),
-        Err(Failure::Refused(refusal)) => Err(plan_refusal_exit(
-            alloc,
-            schema,
-            name.bytes(),
-            refusal,
+        Err(Failure::Refused(refusal)) => Err(EarlyExit::with_text(
+            Status::Refused,
+            plan_refusal_line(alloc, schema, name.bytes(), refusal),
         )),
         Err(Failure::OutOfMemory) => Err(EarlyExit::OutOfMemory),
     }
@@ -70,17 +66,6 @@ fn in_order(alloc: Global, schema: &Schema, read: NamedPlan) -> Result<NamedPlan
         plan: read.plan,
         names,
     })
-}
-
-// A command that ends with the refusal of a plan.
-fn plan_refusal_exit(alloc: Global, schema: &Schema, name: &[u8], refusal: PlanRefusal) -> EarlyExit
-    ensures says { ExitsAs (Says Status.Refused
-        (plan_refusal_text (printed_names_of schema.now) name.now refusal)) result }
-{
-    EarlyExit::with_text(
-        Status::Refused,
-        plan_refusal_line(alloc, schema, name, refusal),
-    )
 }
 
 // The line that words a refusal of a plan.

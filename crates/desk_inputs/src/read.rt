@@ -1,12 +1,9 @@
 ghost use Rattle.std.specs.Prelude.{◌≡◌, ◌^◌, ◌<◌, ◌≤◌, length, IfOk};
 ghost use Rattle.schema_model.specs.Schemas.{universe_of, theory_in};
 ghost use Rattle.dep_model.specs.Deps.{dependency_of, IsDepWithin};
-ghost use Rattle.schema_printer.specs.Spelling.{printed_names_of};
 ghost use Rattle.derivation.specs.Conclusions.{Proves};
 ghost use Rattle.derivation.specs.Derivs.{tree_of};
-ghost use Rattle.proof_grammar.specs.Diagnostics.{line_diagnostic_of, IsRefusalWithin};
 ghost use Rattle.desk_responses.specs.ResponseValues.{Says};
-ghost use Rattle.desk_refusals.specs.ProofTexts.{proof_refusal_text};
 ghost use Rattle.desk_texts.specs.Texts.{cannot_read_text, too_long_text};
 ghost use Rattle.desk_inputs.specs.FileCalls.{LoadsFile, OpensFile};
 ghost use Rattle.desk_inputs.specs.Inputs.{schema_file, proof_file};
@@ -18,7 +15,7 @@ use desk_outside::{FileSource, LoadRefusal, load};
 use desk_refusals::{proof_refusal_line, refusal_exit};
 use desk_responses::{EarlyExit, Status};
 use desk_texts::line_of;
-use proof_text::{Concluded, MOST_PROOF_BYTES, ProofRefusal, read_concluded};
+use proof_text::{Concluded, MOST_PROOF_BYTES, read_concluded};
 use schema_model::Schema;
 use schema_reader::{MOST_TEXT_BYTES, read_schema};
 use std::alloc::Global;
@@ -112,29 +109,10 @@ pub fn open_proof<F: FileSource>(
     };
     match read_concluded(alloc, schema, &bytes) {
         Ok(read) => Ok(read),
-        Err(Failure::Refused(refusal)) => Err(proof_refusal_exit(
-            alloc,
-            schema,
-            name.bytes(),
-            refusal,
+        Err(Failure::Refused(refusal)) => Err(EarlyExit::with_text(
+            Status::Refused,
+            proof_refusal_line(alloc, schema, name.bytes(), refusal),
         )),
         Err(Failure::OutOfMemory) => Err(EarlyExit::OutOfMemory),
     }
-}
-
-// A command that ends with the refusal of a certificate.
-fn proof_refusal_exit(
-    alloc: Global,
-    schema: &Schema,
-    name: &[u8],
-    refusal: ProofRefusal,
-) -> EarlyExit
-    requires within { IsRefusalWithin (universe_of schema.now) refusal.kind }
-    ensures says { ExitsAs (Says Status.Refused
-        (proof_refusal_text (printed_names_of schema.now) name.now (line_diagnostic_of refusal))) result }
-{
-    EarlyExit::with_text(
-        Status::Refused,
-        proof_refusal_line(alloc, schema, name, refusal),
-    )
 }

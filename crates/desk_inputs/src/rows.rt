@@ -3,15 +3,13 @@ ghost use Rattle.csv_rows.specs.declared.reading.TheConstants.{MOST_ROWS};
 ghost use Rattle.column_values.specs.Values.{FitsColumns};
 ghost use Rattle.schema_model.specs.Schemas.{width_of};
 ghost use Rattle.dep_model.specs.Tuples.{IsOver};
-ghost use Rattle.desk_responses.specs.ResponseValues.{Says};
-ghost use Rattle.desk_responses.specs.Responses.{ExitsAs};
 ghost use Rattle.desk_inputs.specs.FileCalls.{OpensFile};
-ghost use Rattle.desk_inputs.specs.Rows.{rows_file, row_refusal_text};
+ghost use Rattle.desk_inputs.specs.Rows.{rows_file};
 
 use crate::read::open_file;
 use crate::row_refusals::row_refusal_line;
 use arguments::Argument;
-use csv_rows::{RowRefusal, read_rows};
+use csv_rows::read_rows;
 use dep_model::Failure;
 use desk_outside::FileSource;
 use desk_responses::{EarlyExit, Status};
@@ -41,28 +39,10 @@ pub fn open_rows<F: FileSource>(
     };
     match read_rows(alloc, schema, &bytes) {
         Ok(rows) => Ok(rows),
-        Err(Failure::Refused(refusal)) => Err(rows_refusal_exit(
-            alloc,
-            schema,
-            name.bytes(),
-            refusal,
+        Err(Failure::Refused(refusal)) => Err(EarlyExit::with_text(
+            Status::Refused,
+            row_refusal_line(alloc, schema, name.bytes(), refusal),
         )),
         Err(Failure::OutOfMemory) => Err(EarlyExit::OutOfMemory),
     }
-}
-
-/// A command that ends with the refusal of rows.
-pub fn rows_refusal_exit(
-    alloc: Global,
-    schema: &Schema,
-    name: &[u8],
-    refusal: RowRefusal,
-) -> EarlyExit
-    ensures says { ExitsAs (Says Status.Refused
-        (row_refusal_text schema.now name.now refusal)) result }
-{
-    EarlyExit::with_text(
-        Status::Refused,
-        row_refusal_line(alloc, schema, name, refusal),
-    )
 }
