@@ -134,18 +134,18 @@ pub fn answer_rows(
     alloc: Global,
     hashing: Hashing,
     schema: &Schema,
-    rows: &Rows,
+    rows: Rows,
     question: RowsQuestion,
 ) -> Result<Response, EarlyExit>
-    requires over { IsOver (width_of schema.now) rows.now }
-    requires fits_u32 { length rows.now < 2 ^ 32 }
-    ensures response { RespondsAs (AnswersRows schema.now rows.now (rows_question question)) result }
+    requires over { IsOver (width_of schema.now) rows }
+    requires fits_u32 { length rows < 2 ^ 32 }
+    ensures response { RespondsAs (AnswersRows schema.now rows (rows_question question)) result }
 {
     match question {
         RowsQuestion::CheckRows => check_rows(alloc, hashing, schema, rows),
-        RowsQuestion::Offences => list_offences(alloc, hashing, schema, rows),
-        RowsQuestion::OffencesByRow => list_offences_by_row(alloc, hashing, schema, rows),
-        RowsQuestion::Kept => keep_rows(alloc, hashing, schema, rows),
+        RowsQuestion::Offences => list_offences(alloc, hashing, schema, &rows),
+        RowsQuestion::OffencesByRow => list_offences_by_row(alloc, hashing, schema, &rows),
+        RowsQuestion::Kept => keep_rows(alloc, hashing, schema, &rows),
     }
 }
 

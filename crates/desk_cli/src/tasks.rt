@@ -145,7 +145,7 @@ fn of_rows<F: FileSource>(
         Ok(rows) => rows,
         Err(exit) => return Err(exit),
     };
-    answer_rows(alloc, hashing, schema, &rows, question)
+    answer_rows(alloc, hashing, schema, rows, question)
 }
 
 // How far the rows of a file are from legal, whatever their values are.

@@ -1,3 +1,4 @@
 pub mod RuleLemmas
+mod SmallLemmas
 mod KeyLemmas
 pub mod NearLemmas

@@ -16,11 +16,12 @@ ghost use Rattle.desk_responses.specs.Responses.{RespondsAs};
 use crate::discovering::{WIDEST_TRIED, left_sides_exit, rules_response};
 use arguments::Argument;
 use candidate_search::TooManyLeftSides;
-use dep_model::{Dep, Failure};
+use dep_model::{Dep, Failure, OutOfMemory};
 use desk_responses::{EarlyExit, Response};
 use fd_discovery::discover;
 use fd_search::{few_on_the_left, small_dependencies};
 use headed_rows::Headed;
+use near_rules::near_rules;
 use row_store::{Hashing, Rows};
 use std::alloc::Global;
 
@@ -48,7 +49,7 @@ pub fn discover_small_rules(
     }
 }
 
-// Those dependencies: of few columns all sets are tried.
+// Those dependencies.
 fn small_rules_of(
     alloc: Global,
     hashing: Hashing,
@@ -66,9 +67,37 @@ fn small_rules_of(
     ensures refusal { IfErr result (RefusesAs (IsTooManyLeftSides width most rows.now)) }
 {
     if width <= WIDEST_TRIED {
-        let all = discover(alloc, hashing, width, rows)?;
-        let few = few_on_the_left(alloc, most, &all)?;
-        return Ok(few);
+        let found = rules_of_few_columns(alloc, hashing, width, most, rows)?;
+        return Ok(found);
     }
     small_dependencies(alloc, hashing, width, most, rows)
+}
+
+// The most attributes on the left with which they are sought as those that nearly hold are, so that no larger set is
+// tried. Which way is taken is a matter of speed alone.
+const FEW_ON_THE_LEFT: u8 = 1;
+
+// The same of few columns: with few attributes on the left as what nearly holds where no row may go, else from all sets.
+fn rules_of_few_columns(
+    alloc: Global,
+    hashing: Hashing,
+    width: u8,
+    most: u8,
+    rows: &Rows,
+) -> Result<Vec<Dep>, OutOfMemory>
+    requires width { width ≤ WIDEST_HEADED }
+    requires over { IsOver width rows.now }
+    requires within_limit { length rows.now ≤ MOST_HEADED_ROWS }
+    ensures small { IfOk result (λ found. AreAllSmall width most rows.now (dependencies_of found.items)) }
+    ensures within { IfOk result (λ found. All (IsDepWithin (below width)) found.items) }
+{
+    if most <= FEW_ON_THE_LEFT {
+        match near_rules(alloc, hashing, width, rows, 0, most) {
+            Ok(found) => return Ok(found.deps),
+            Err(Failure::OutOfMemory) => return Err(OutOfMemory),
+            Err(Failure::Refused(_)) => {}
+        }
+    }
+    let all = discover(alloc, hashing, width, rows)?;
+    few_on_the_left(alloc, most, &all)
 }

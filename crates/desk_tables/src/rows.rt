@@ -9,27 +9,46 @@ use byte_texts::{add, add_number};
 use dep_model::OutOfMemory;
 use desk_responses::{EarlyExit, Response, Status, put_dep, put_line};
 use desk_texts::line_of;
-use legality::{Offence, offences};
+use legality::{Offence, offences, offences_of_own_rows};
 use row_store::{Hashing, Rows};
 use schema_model::Schema;
 use std::alloc::Global;
 
-/// Whether rows are legal for a schema.
+/// Whether rows are legal for a schema. They are let go as soon as their values have numbers, which are much smaller.
 pub fn check_rows(
     alloc: Global,
     hashing: Hashing,
     schema: &Schema,
-    rows: &Rows,
+    rows: Rows,
 ) -> Result<Response, EarlyExit>
-    requires over { IsOver (width_of schema.now) rows.now }
-    requires fits_u32 { length rows.now < 2 ^ 32 }
-    ensures response { RespondsAs (JudgesRows schema.now rows.now) result }
+    requires over { IsOver (width_of schema.now) rows }
+    requires fits_u32 { length rows < 2 ^ 32 }
+    ensures response { RespondsAs (JudgesRows schema.now rows) result }
 {
-    match test_rows(alloc, hashing, schema, rows) {
+    match test_own_rows(alloc, hashing, schema, rows) {
         Ok(()) => {}
         Err(exit) => return Err(exit),
     }
     Ok(legal_response(alloc)?)
+}
+
+// The test that rows are legal, of rows that nobody wants any more.
+fn test_own_rows(
+    alloc: Global,
+    hashing: Hashing,
+    schema: &Schema,
+    rows: Rows,
+) -> Result<(), EarlyExit>
+    requires over { IsOver (width_of schema.now) rows }
+    requires fits_u32 { length rows < 2 ^ 32 }
+    ensures ok { IfOk result (λ _. LegalFor schema.now rows) }
+    ensures exit { IfErr result (ExitsAs (OffenceStops schema.now rows)) }
+{
+    let found = offences_of_own_rows(alloc, hashing, &schema.theory(), rows)?;
+    if found.is_empty() {
+        return Ok(());
+    }
+    Err(offences_exit(alloc, schema, &found))
 }
 
 /// The test that rows are legal.

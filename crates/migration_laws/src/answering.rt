@@ -11,15 +11,12 @@ ghost use Rattle.desk_responses.specs.declared.status.Status.TheVariants.{Yes};
 ghost use Rattle.desk_scripts.specs.Scripts.{ScriptsMigration, ScriptsMigrationByPlan};
 ghost use Rattle.migration_laws.specs.Printed.{EndsInFairEngines};
 
-/// Whatever script `sql migrate` prints for a normal form ends without an error in each fair engine.
-pub fn scripts_of_forms_end()
-    ensures law { (s : Schema) (form : Form) (name : List ℕ) (response : ResponseValue)
+/// Whatever script `sql migrate` prints for a normal form ends without an error in each fair engine, and so
+/// does whatever script it prints for a plan, whose names are apart.
+pub fn printed_scripts_end()
+    ensures form { (s : Schema) (form : Form) (name : List ℕ) (response : ResponseValue)
         → ScriptsMigration s form name response → response.status ≡ Yes → EndsInFairEngines s name response }
-{}
-
-/// So does whatever script it prints for a plan, whose names are apart.
-pub fn scripts_of_plans_end()
-    ensures law { (s : Schema) (names : GivenNames) (schemes : List Attributes) (name : List ℕ)
+    ensures plan { (s : Schema) (names : GivenNames) (schemes : List Attributes) (name : List ℕ)
         (response : ResponseValue) → IsPlan (width_of s) schemes → length schemes ≤ MOST_TABLES → AreApart names
         → ScriptsMigrationByPlan s names schemes name response → response.status ≡ Yes
         → EndsInFairEngines s name response }

@@ -1,7 +1,7 @@
 //! Laws of what the scripts that `sql migrate` prints do in an engine: what the laws of the script
 //! ask of a design holds of each that is printed. No code.
 //!
-//! Each law is a function that does nothing, whose clause is the law; so the gate asks for its
+//! Each law is a function that does nothing, whose clauses are the law; so the gate asks for its
 //! proof.
 //!
 //! Promises: over a table that holds a relation of which no rule is broken, each script that is
@@ -14,6 +14,6 @@ mod answering;
 mod ending;
 mod engines;
 
-pub use answering::{scripts_of_forms_end, scripts_of_plans_end};
-pub use ending::{designs_fit, migrations_of_designs_end, names_of_designs_differ};
+pub use answering::printed_scripts_end;
+pub use ending::migrations_of_designs_end;
 pub use engines::a_strict_engine_is_fair;

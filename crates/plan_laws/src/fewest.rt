@@ -11,9 +11,10 @@ ghost use Rattle.desk_designs.specs.FewestTables.{IsFewestTables};
 ghost use Rattle.desk_designs.specs.Synthesis.{IsThirdFormPlan};
 ghost use Rattle.plan_laws.specs.Passing.{PassesCheckForm, PassesCheckJoin, PassesCheckKeeps};
 
-/// The plan of `synthesize fewest` passes `check form` of third and of second form, `check join`
-/// and `check keeps`.
-pub fn fewest_plans_pass()
+/// The plan of `synthesize fewest` passes `check form` of third and of second form, `check join` and
+/// `check keeps`. It has no more schemes than that of `synthesize`; and at most one more, for a key, than any
+/// design whose keys state the functional dependencies.
+pub fn fewest_plans_pass_and_are_small()
     ensures third { (schema : Schema) (plan : List AttrSet) → IsFewestTables schema plan
         → PassesCheckForm schema (tested.Higher forms.Third) (schemes_of plan) }
     ensures second { (schema : Schema) (plan : List AttrSet) → IsFewestTables schema plan
@@ -22,11 +23,6 @@ pub fn fewest_plans_pass()
         → PassesCheckJoin schema (schemes_of plan) }
     ensures keeps { (schema : Schema) (plan : List AttrSet) → IsFewestTables schema plan
         → PassesCheckKeeps schema (schemes_of plan) }
-{}
-
-/// The plan of `synthesize fewest` has no more schemes than that of `synthesize`; and at most one
-/// more, for a key, than any design whose keys state the functional dependencies.
-pub fn fewest_plans_are_small()
     ensures synthesis { (schema : Schema) (plan other : List AttrSet) → IsFewestTables schema plan
         → IsThirdFormPlan schema other → length plan ≤ length other }
     ensures designs { (schema : Schema) (plan : List AttrSet) (design : List KeyedScheme)

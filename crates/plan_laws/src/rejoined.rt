@@ -8,9 +8,8 @@ ghost use Rattle.dep_model.specs.JoinOrders.{from_last};
 ghost use Rattle.dep_model.specs.Plans.{IsPlan};
 ghost use Rattle.dep_model.specs.Projections.{Covers};
 ghost use Rattle.optional_tables.specs.declared.keyed.KeyedScheme.{KeyedScheme};
-ghost use Rattle.schema_model.specs.Schemas.{LegalFor, names_of, nullable_of, width_of};
+ghost use Rattle.schema_model.specs.Schemas.{LegalFor, Schema, names_of, nullable_of, width_of};
 ghost use Rattle.dep_model.specs.Tuples.{Relation};
-ghost use Rattle.schema_model.specs.Schemas.{Schema};
 ghost use Rattle.schema_printer.specs.Spelling.{printed_names_of};
 ghost use Rattle.sql_migrate.specs.Script.{view_order};
 ghost use Rattle.sql_migrate.specs.declared.joining.JoinedTable.{JoinedTable};
@@ -32,57 +31,45 @@ ghost use Rattle.desk_tables.specs.declared.rejoining.TheConstants.{MOST_JOINED_
 ghost use Rattle.plan_laws.specs.Rejoined.{GivesTheRows, HasNoOptional, HaveRowsInAnyOrder, HaveRowsOf};
 ghost use Rattle.plan_laws.specs.Rejoined.{HaveRowsOnceEach};
 
-/// Of the tables that `migrate` makes of legal rows by a plan that loses nothing and has no optional table, `rejoin`
-/// gives the rows, each once, or refuses a join of too many.
+/// Of the tables that `migrate` makes of legal rows by a plan that loses nothing and has no optional table,
+/// `rejoin` gives the rows, each once, or refuses a join of too many. The same holds of those tables in any
+/// other order, and where some of them are given more than once. Where tables that `migrate` makes are, in
+/// whatever order, a readable design that has an optional table, and no table loses a value, `rejoin` gives
+/// the rows too. The tables that `migrate` makes by a plan that loses nothing, can be read back and has an
+/// optional table are such a design, each once and in whatever order. There and back: where `migrate` makes
+/// tables of legal rows by a plan that loses nothing and can be read back, and no table loses a value,
+/// `rejoin` of them, each once and in whatever order, gives exactly the rows, each once, or refuses a join of
+/// too many, whether a table is optional or none.
 pub fn migrated_tables_are_rejoined()
-    ensures law { (schema : Schema) (names : GivenNames) (plan : List Attributes) (rows : Relation)
+    ensures in_order { (schema : Schema) (names : GivenNames) (plan : List Attributes) (rows : Relation)
         (tables : List TableValue) (parts : List PartialRelation) → LosesNothing schema plan → HasNoOptional schema plan
         → LegalFor schema rows → AreTablesOf schema names plan rows tables → HaveRowsOf schema plan tables parts
         → GivesTheRows schema parts rows }
-{}
-
-/// The same holds of those tables in any other order, and where some of them are given more than once.
-pub fn tables_are_rejoined_in_any_order()
-    ensures law { (schema : Schema) (names : GivenNames) (plan : List Attributes) (rows : Relation)
+    ensures in_any_order { (schema : Schema) (names : GivenNames) (plan : List Attributes) (rows : Relation)
         (tables : List TableValue) (parts : List PartialRelation) → LosesNothing schema plan → HasNoOptional schema plan
         → LegalFor schema rows → AreTablesOf schema names plan rows tables
         → HaveRowsInAnyOrder schema plan tables parts → GivesTheRows schema parts rows }
-{}
-
-/// Where tables that `migrate` makes are, in whatever order, a readable design that has an optional table, and no table
-/// loses a value, `rejoin` gives the rows too.
-pub fn tables_are_looked_up()
-    ensures law { (schema : Schema) (names : GivenNames) (plan : List Attributes) (rows : Relation)
+    ensures looked_up { (schema : Schema) (names : GivenNames) (plan : List Attributes) (rows : Relation)
         (tables : List TableValue) (parts : List PartialRelation) (keyed : List KeyedScheme) (counts : List ℕ)
         → LosesNothing schema plan → IsPlan (width_of schema) plan → LegalFor schema rows → AreTidy schema plan rows
         → AreTablesOf schema names plan rows tables → HaveRowsInAnyOrder schema plan tables parts
         → HaveLookUps schema parts keyed counts → GivesTheRows schema parts rows }
-{}
-
-/// The tables that `migrate` makes by a plan that loses nothing, can be read back and has an optional table are such a
-/// design, each once and in whatever order.
-pub fn migrated_tables_have_look_ups()
-    ensures law { (schema : Schema) (names : GivenNames) (plan : List Attributes) (rows : Relation)
+    ensures have_look_ups { (schema : Schema) (names : GivenNames) (plan : List Attributes) (rows : Relation)
         (tables : List TableValue) (parts : List PartialRelation) → LosesNothing schema plan
         → AreReadable schema names plan → (HasNoOptional schema plan → ⊥) → AreTablesOf schema names plan rows tables
         → HaveRowsOnceEach schema plan tables parts
         → (keyed : List KeyedScheme) × ((counts : List ℕ) × HaveLookUps schema parts keyed counts) }
-{}
-
-/// There and back: where `migrate` makes tables of legal rows by a plan that loses nothing and can be read back, and no
-/// table loses a value, `rejoin` of them, each once and in whatever order, gives exactly the rows, each once, or
-/// refuses a join of too many, whether a table is optional or none.
-pub fn rows_come_back()
-    ensures law { (schema : Schema) (names : GivenNames) (plan : List Attributes) (rows : Relation)
+    ensures there_and_back { (schema : Schema) (names : GivenNames) (plan : List Attributes) (rows : Relation)
         (tables : List TableValue) (parts : List PartialRelation) → LosesNothing schema plan
         → AreReadable schema names plan → AreTablesOf schema names plan rows tables
         → HaveRowsOnceEach schema plan tables parts → IsPlan (width_of schema) plan → LegalFor schema rows
         → AreTidy schema plan rows → GivesTheRows schema parts rows }
 {}
 
-/// What `rejoin` answers of tables that are a readable design with an optional table: where each attribute is in one of
-/// them, the rows to which they are joined and looked up within the limit; else the refusal of the first attribute that
-/// is in none, or that there are too many rows.
+/// What `rejoin` answers of tables that are a readable design with an optional table: where each attribute is
+/// in one of them, the rows to which they are joined and looked up within the limit; else the refusal of the
+/// first attribute that is in none, or that there are too many rows. The order in which `rejoin` joins tables
+/// from the last is the one in which the view of `sql migrate` joins them.
 pub fn look_ups_are_answered()
     ensures rows { (schema : Schema) (tables : List PartialRelation) (keyed : List KeyedScheme) (counts : List ℕ)
         (rows : Relation) (response : ResponseValue) → HaveLookUps schema tables keyed counts
@@ -101,9 +88,5 @@ pub fn look_ups_are_answered()
         (joined_tables schema tables keyed) (looked_up_tables schema tables keyed counts) after
         → JoinsTables schema tables response
         → Says Refused (join_refusal_text (printed_names_of schema) (TooManyRows after)) response }
-{}
-
-/// The order in which `rejoin` joins tables from the last is the one in which the view of `sql migrate` joins them.
-pub fn view_joins_from_the_last()
-    ensures law { (tables : List JoinedTable) → view_order tables ≡ from_last (λ t. attributes t.scheme) tables }
+    ensures view { (tables : List JoinedTable) → view_order tables ≡ from_last (λ t. attributes t.scheme) tables }
 {}

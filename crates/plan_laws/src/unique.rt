@@ -5,8 +5,7 @@ ghost use Rattle.std.specs.Prelude.{◌≡◌, List};
 ghost use Rattle.attr_sets.specs.Attributes.{Attributes};
 ghost use Rattle.attr_sets.specs.declared.set.AttrSet.{AttrSet};
 ghost use Rattle.dep_model.specs.Plans.{IsPlan, schemes_of};
-ghost use Rattle.schema_model.specs.Schemas.{width_of};
-ghost use Rattle.schema_model.specs.Schemas.{Schema};
+ghost use Rattle.schema_model.specs.Schemas.{Schema, width_of};
 ghost use Rattle.ddl_text.specs.declared.table.TableDesign.{TableDesign};
 ghost use Rattle.dep_model.specs.declared.form.Form.{Form};
 ghost use Rattle.dep_model.specs.declared.form.Form.TheVariants as forms;
@@ -21,24 +20,17 @@ ghost use Rattle.desk_designs.specs.Synthesis.{Synthesizes};
 ghost use Rattle.desk_responses.specs.ResponseValues.{ResponseValue};
 ghost use Rattle.plan_laws.specs.SameDesigns.{AreSameTables};
 
-/// A schema has one plan of `split` in a form, and one of `split wide-bcnf`.
-pub fn one_split_plan()
-    ensures form { (schema : Schema) (form : Form) (plan other : List AttrSet) → (form ≡ forms.Third → ⊥)
+/// A schema has one plan of `split` in a form, and one of `split wide-bcnf`; and one plan of third form, the
+/// grouped one, so one plan in each form. A plan with names has one design: any two have the same names,
+/// columns, keys, other keys and references, table by table.
+pub fn plans_are_unique()
+    ensures split { (schema : Schema) (form : Form) (plan other : List AttrSet) → (form ≡ forms.Third → ⊥)
         → IsSplitInForm schema form plan → IsSplitInForm schema form other → schemes_of plan ≡ schemes_of other }
-    ensures wide { (schema : Schema) (plan other : List AttrSet) → IsWideSplit schema plan
+    ensures split_wide { (schema : Schema) (plan other : List AttrSet) → IsWideSplit schema plan
         → IsWideSplit schema other → schemes_of plan ≡ schemes_of other }
-{}
-
-/// A schema has one plan of third form, the grouped one; so one plan in each form.
-pub fn one_plan_in_form()
-    ensures law { (schema : Schema) (form : Form) (plan other : List AttrSet) → IsPlanInForm schema form plan
+    ensures in_form { (schema : Schema) (form : Form) (plan other : List AttrSet) → IsPlanInForm schema form plan
         → IsPlanInForm schema form other → schemes_of plan ≡ schemes_of other }
-{}
-
-/// A plan with names has one design: any two have the same names, columns, keys, other keys and references, table by
-/// table.
-pub fn one_design_of_a_plan()
-    ensures law { (schema : Schema) (names : GivenNames) (plan others : List AttrSet) (one other : List TableDesign)
+    ensures design { (schema : Schema) (names : GivenNames) (plan others : List AttrSet) (one other : List TableDesign)
         → schemes_of plan ≡ schemes_of others → IsSoundDesign schema names plan one
         → IsSoundDesign schema names others other → AreSameTables one other }
 {}

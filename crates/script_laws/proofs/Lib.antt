@@ -1,0 +1,13 @@
+mod Tests
+mod Numbers
+mod Lines
+mod Columns
+mod Tables
+mod Asked
+mod Checks
+mod Measures
+mod Designs
+mod Migrations
+mod Texts
+mod Remarks
+mod LaterLines
