@@ -46,12 +46,13 @@ pub record OpenedSome {S Value Refusal : Type 0} (source : FileSource S) (kind :
   pub begins : BeginsAll (take i names) (source.begun old) (source.begun mid)
   pub read : (r : Reading) → files_in r ≡ source.files old → AreFiles kind r (take i names) values
 
-pub none_opened : {S Value Refusal : Type 0} (source : FileSource S) (kind : FileKind Value Refusal) (names : List (List ℕ)) (old : S) → OpenedSome source kind names old old zero []
-none_opened source kind names old = record {
+pub none_opened : {S Value Refusal : Type 0} {source : FileSource S} {kind : FileKind Value Refusal} {names : List (List ℕ)} {old : S} {values : List Value} → values ≡ []
+    → OpenedSome source kind names old old zero values
+none_opened {S} {Value} {Refusal} {source} {kind} {names} {old} {values} none = record {
   files = refl;
   later = omega arith;
   begins = λ begun is. subst (source.begun old) (sym (append-nil begun)) is;
-  read = λ r same. tt;
+  read = λ r same. subst (AreFiles kind r []) (sym none) tt;
 }
 
 -- one more is opened

@@ -1,6 +1,6 @@
 -- What is left to prove of `open_headed_files`: its clause `opens`, by `FilesLemmas`, and that a round of its loop keeps
 -- the invariant, by `one_more_opened`.
-use Rattle.std.proofs.Common.{◌≡◌, ◌+◌, ℕ, List, [], ◌∷◌, ◌++◌, length, map, arith, ap, refl, sym, subst, tt, ◌∙◌}
+use Rattle.std.proofs.Common.{rules, ◌≡◌, ◌+◌, ℕ, List, [], ◌∷◌, ◌++◌, length, map, arith, ap, refl, sym, subst, ◌∙◌}
 use Rattle.std.proofs.lemmas.Grind.{common_steps}
 use Rattle.std.proofs.lemmas.List.{map-append}
 use Rattle.std.proofs.lemmas.List.Elements.{All-push}
@@ -15,10 +15,10 @@ use Rattle.desk_inputs.proofs.headed_files.open_headed_files.Goals as goal
 
 pub loop-file-init : goal.loop-file-init
 loop-file-init g c = record {
-  opened = none_opened g.F.FileSource headed_file c.args.files.now c.args.source.now;
-  header = tt;
-  same_width = tt;
-  one_each = refl;
+  opened = none_opened (search rules);
+  header = search rules;
+  same_width = search rules;
+  one_each = search rules;
 }
 
 pub loop-file-preserved : goal.loop-file-preserved

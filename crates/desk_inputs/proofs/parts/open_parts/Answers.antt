@@ -1,6 +1,6 @@
 -- What is left to prove of `open_parts`: its clause `opens`, by `FilesLemmas`, and that a round of its loop keeps the
 -- invariant, by `one_more_opened` and `tables_more`.
-use Rattle.std.proofs.Common.{◌≡◌, ◌+◌, ℕ, List, [], ◌∷◌, ◌++◌, length, arith, refl, sym, subst, tt}
+use Rattle.std.proofs.Common.{rules, ◌≡◌, ◌+◌, ℕ, List, [], ◌∷◌, ◌++◌, length, arith, refl, sym, subst}
 use Rattle.std.proofs.lemmas.Grind.{common_steps}
 use Rattle.std.specs.Prelude.{All}
 use Rattle.csv_rows.specs.declared.part.PartialRows.{PartialRows}
@@ -12,11 +12,7 @@ use Rattle.desk_inputs.proofs.PartLemmas.{tables_more}
 use Rattle.desk_inputs.proofs.parts.open_parts.Goals as goal
 
 pub loop-file-init : goal.loop-file-init
-loop-file-init g c = record {
-  opened = none_opened g.F.FileSource (part_file c.args.schema.now) c.args.files.now c.args.source.now;
-  tables = tt;
-  one_each = refl;
-}
+loop-file-init g c = record { opened = none_opened (search rules); tables = search rules; one_each = search rules }
 
 pub loop-file-preserved : goal.loop-file-preserved
 loop-file-preserved g c =
