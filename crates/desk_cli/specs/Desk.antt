@@ -4,6 +4,7 @@ use Rattle.std.specs.Io.KnownBytes.{append_known}
 use Rattle.dep_model.specs.declared.memory.OutOfMemory.{OutOfMemory}
 use Rattle.desk_outside.specs.Begun.{Begun}
 use Rattle.desk_outside.specs.Causes.{ErrorCountIncreased, TookPart}
+use Rattle.desk_outside.specs.declared.file_source.FileSource.{Ghosts as FileSource}
 use Rattle.desk_outside.specs.Files.{Files}
 use Rattle.desk_outside.specs.FreeNames.{may_be_free}
 use Rattle.desk_responses.specs.declared.status.Status.{Status}
@@ -28,16 +29,16 @@ pub record FileSourceInCall : Type 1 where
   pub begun_before : Begun
   pub begun_after : Begun
 
-abbrev pub source_in_call : Option Files → Option Files → ℕ → ℕ → ℕ → Begun → Begun → FileSourceInCall
-source_in_call files files_after before after taken begun_before begun_after =
+abbrev pub source_in_call : {S : Type 0} → FileSource S → S → S → FileSourceInCall
+source_in_call source old new =
     record {
-      files = files;
-      files_after = files_after;
-      before = before;
-      after = after;
-      taken = taken;
-      begun_before = begun_before;
-      begun_after = begun_after;
+      files = source.files old;
+      files_after = source.files new;
+      before = source.faults old;
+      after = source.faults new;
+      taken = source.taken new;
+      begun_before = source.begun old;
+      begun_after = source.begun new;
     }
 
 -- a sink in a call: the bytes taken, where known, and its faults, before and after

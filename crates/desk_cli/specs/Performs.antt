@@ -28,11 +28,10 @@ use Rattle.desk_exhibits.specs.Exhibits.{Exhibits}
 use Rattle.desk_words.specs.Forms as form
 use Rattle.desk_words.specs.Forms.{CommandForm, PairQuestion, PlanQuestion, RowsQuestion, RulesQuestion, SchemaQuestion, Task, form_of}
 use Rattle.headed_rows.specs.Headings.{HeadedRows}
-use Rattle.desk_inputs.specs.FileKinds.{WithFile}
+use Rattle.desk_inputs.specs.FileKinds.{WithFile, WithFiles}
 use Rattle.desk_imports.specs.Columns.{ImportsColumns}
 use Rattle.desk_imports.specs.Imports.{ImportsTable}
 use Rattle.desk_inputs.specs.Headed.{headed_file, imported_file, whole_file}
-use Rattle.desk_inputs.specs.HeadedFiles.{WithHeadedFiles}
 use Rattle.desk_inputs.specs.Sql.{sql_file}
 use Rattle.desk_cli.specs.Help.{help_text, version_text}
 use Rattle.desk_implication.specs.Explanations.{ExplainsImplication}
@@ -55,7 +54,7 @@ use Rattle.desk_tables.specs.Migrations.{Samples}
 use Rattle.desk_tables.specs.Overwriting.{MigratesHere, MigratesPlanHere}
 use Rattle.desk_tables.specs.OwnFolders.{Looks, MigratesInto, MigratesPlanInto}
 use Rattle.desk_designs.specs.NormalForms.{JudgesForm}
-use Rattle.desk_inputs.specs.Parts.{WithParts}
+use Rattle.desk_inputs.specs.Parts.{part_file}
 use Rattle.desk_implication.specs.Projections.{Projects}
 use Rattle.desk_references.specs.Checks.{ChecksReferences}
 use Rattle.desk_references.specs.Findings.{FindsReferences}
@@ -158,7 +157,8 @@ Does looks r schema (form.check_derivation file goal) =
     WithFile (derivation_file schema) r file (λ lines. ChecksDerivation schema lines goal)
 Does looks r schema (form.of_pair file other_file question) =
     WithFile schema_file r other_file (λ other. AnswersPair schema other file other_file question)
-Does looks r schema (form.rejoin files) = WithParts r schema files (λ parts. JoinsTables schema (tables_of parts))
+Does looks r schema (form.rejoin files) =
+    WithFiles (part_file schema) r files (λ parts. JoinsTables schema (tables_of parts))
 Does looks r schema (form.report file) = ReportsSchema file schema
 Does looks r schema (form.report_plan file planned) =
     WithFile (plan_file schema) r planned (λ plan. ReportsPlan file planned schema plan)
@@ -172,7 +172,7 @@ unfoldable pub Performs : Looks → Reading → CommandForm → Allowed
 Performs looks r (form.over_schema file task) = WithFile schema_file r file (λ schema. Does looks r schema task)
 Performs looks r (form.discover question file) = WithFile headed_file r file (AnswersRules question file)
 Performs looks r (form.discover_all file) = WithFile whole_file r file FindsAllRules
-Performs looks r (form.discover_references files) = WithHeadedFiles r files (FindsReferences files)
+Performs looks r (form.discover_references files) = WithFiles headed_file r files (FindsReferences files)
 Performs looks r (form.check_references file names other other_names) =
     WithFile headed_file r file
     (λ own. WithFile headed_file r other (λ others. ChecksReferences own names others other_names))

@@ -10,7 +10,8 @@ use desk_responses::{EarlyExit, Response, Status};
 use nearest_lines::nearest;
 use std::alloc::Global;
 
-const HELP: &[u8] =
+/// What `help` prints. Nothing else says these lines: the definitions cite them.
+pub const HELP: &[u8] =
     b"desk implies SCHEMA GOAL              whether the schema implies the goal, with a proof or two rows against it
 desk explain implies SCHEMA GOAL      the same with a derivation as one writes it by hand, in few lines
 desk check proof SCHEMA FILE GOAL     whether the certificate in FILE proves the goal

@@ -1,12 +1,11 @@
 //! The commands that make a schema of a file.
 
-ghost use Rattle.std.specs.Prelude.{◌≡◌, ◌≤◌, ◌∷◌, []};
+ghost use Rattle.std.specs.Prelude.{◌∷◌, []};
 ghost use Rattle.desk_imports.specs.Columns.{ImportsColumns};
 ghost use Rattle.desk_imports.specs.Imports.{ImportsTable};
+ghost use Rattle.desk_inputs.specs.FileCalls.{Reads};
 ghost use Rattle.desk_inputs.specs.FileKinds.{WithFile};
-ghost use Rattle.desk_inputs.specs.FilesBegun.{BeginsFront};
 ghost use Rattle.desk_inputs.specs.Headed.{imported_file};
-ghost use Rattle.desk_inputs.specs.Readings.{Reading, Shows};
 ghost use Rattle.desk_inputs.specs.Sql.{sql_file};
 ghost use Rattle.desk_responses.specs.Responses.{RespondsAs};
 
@@ -24,12 +23,8 @@ pub fn of_imported<F: FileSource>(
     source: &mut F,
     file: &Argument,
 ) -> Result<Response, EarlyExit>
-    ensures files { F.files source.new ≡ F.files source.old }
-    ensures later { F.faults source.old ≤ F.faults source.new }
-    ensures reads { BeginsFront (file.now ∷ [])
-        (F.begun source.old) (F.begun source.new) }
-    ensures response { (r : Reading) → Shows F.files F.faults F.taken F.begun source.old source.new r
-        → RespondsAs (WithFile imported_file r file.now ImportsColumns) result }
+    ensures reads { Reads F.FileSource source.old source.new (file.now ∷ [])
+        (λ r. RespondsAs (WithFile imported_file r file.now ImportsColumns) result) }
 {
     let headed = match open_headed(alloc, source, Purpose::Schema, file) {
         Ok(headed) => headed,
@@ -46,12 +41,8 @@ pub fn of_sql<F: FileSource>(
     file: &Argument,
     table: &Argument,
 ) -> Result<Response, EarlyExit>
-    ensures files { F.files source.new ≡ F.files source.old }
-    ensures later { F.faults source.old ≤ F.faults source.new }
-    ensures reads { BeginsFront (file.now ∷ [])
-        (F.begun source.old) (F.begun source.new) }
-    ensures response { (r : Reading) → Shows F.files F.faults F.taken F.begun source.old source.new r
-        → RespondsAs (WithFile sql_file r file.now (ImportsTable dialect table.now file.now)) result }
+    ensures reads { Reads F.FileSource source.old source.new (file.now ∷ [])
+        (λ r. RespondsAs (WithFile sql_file r file.now (ImportsTable dialect table.now file.now)) result) }
 {
     let text = match open_sql(alloc, source, file) {
         Ok(text) => text,

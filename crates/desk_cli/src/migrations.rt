@@ -1,11 +1,10 @@
 //! The rows of files as tables: the files are read one after the other, and then the rows are moved.
 
-ghost use Rattle.std.specs.Prelude.{◌≡◌, ◌≤◌, ◌∷◌, []};
+ghost use Rattle.std.specs.Prelude.{◌∷◌, []};
+ghost use Rattle.desk_inputs.specs.FileCalls.{Reads};
 ghost use Rattle.desk_inputs.specs.FileKinds.{WithFile};
 ghost use Rattle.desk_outside.specs.FreeNames.{may_be_free};
-ghost use Rattle.desk_inputs.specs.FilesBegun.{BeginsFront};
 ghost use Rattle.desk_inputs.specs.Plans.{plan_file};
-ghost use Rattle.desk_inputs.specs.Readings.{Reading, Shows};
 ghost use Rattle.desk_inputs.specs.Rows.{rows_file};
 ghost use Rattle.desk_responses.specs.Responses.{RespondsAs};
 ghost use Rattle.desk_tables.specs.Overwriting.{MigratesHere, MigratesPlanHere};
@@ -31,13 +30,9 @@ pub fn of_rows_in_form<F: FileSource>(
     file: &Argument,
     form: Form,
 ) -> Result<Response, EarlyExit>
-    ensures files { F.files source.new ≡ F.files source.old }
-    ensures later { F.faults source.old ≤ F.faults source.new }
-    ensures reads { BeginsFront (file.now ∷ [])
-        (F.begun source.old) (F.begun source.new) }
-    ensures response { (r : Reading) → Shows F.files F.faults F.taken F.begun source.old source.new r
-        → RespondsAs (WithFile (rows_file schema.now) r file.now
-        (MigratesHere schema.now form (own.now ∷ file.now ∷ []))) result }
+    ensures reads { Reads F.FileSource source.old source.new (file.now ∷ [])
+        (λ r. RespondsAs (WithFile (rows_file schema.now) r file.now
+        (MigratesHere schema.now form (own.now ∷ file.now ∷ []))) result) }
 {
     let rows = match open_rows(alloc, source, schema, file) {
         Ok(rows) => rows,
@@ -64,14 +59,10 @@ pub fn of_plan_and_rows<F: FileSource>(
     planned: &Argument,
     file: &Argument,
 ) -> Result<Response, EarlyExit>
-    ensures files { F.files source.new ≡ F.files source.old }
-    ensures later { F.faults source.old ≤ F.faults source.new }
-    ensures reads { BeginsFront (planned.now ∷ file.now ∷ [])
-        (F.begun source.old) (F.begun source.new) }
-    ensures response { (r : Reading) → Shows F.files F.faults F.taken F.begun source.old source.new r
-        → RespondsAs (WithFile (plan_file schema.now) r planned.now
+    ensures reads { Reads F.FileSource source.old source.new (planned.now ∷ file.now ∷ [])
+        (λ r. RespondsAs (WithFile (plan_file schema.now) r planned.now
         (λ plan. WithFile (rows_file schema.now) r file.now
-        (MigratesPlanHere schema.now plan.names plan.schemes (own.now ∷ planned.now ∷ file.now ∷ [])))) result }
+        (MigratesPlanHere schema.now plan.names plan.schemes (own.now ∷ planned.now ∷ file.now ∷ [])))) result) }
 {
     let plan = match open_plan(alloc, source, schema, planned) {
         Ok(plan) => plan,
@@ -105,13 +96,9 @@ pub fn of_rows_into<F: FileSource, G: Folder>(
     form: Form,
     folder: &Argument,
 ) -> Result<Response, EarlyExit>
-    ensures files { F.files source.new ≡ F.files source.old }
-    ensures later { F.faults source.old ≤ F.faults source.new }
-    ensures reads { BeginsFront (file.now ∷ [])
-        (F.begun source.old) (F.begun source.new) }
-    ensures response { (r : Reading) → Shows F.files F.faults F.taken F.begun source.old source.new r
-        → RespondsAs (WithFile (rows_file schema.now) r file.now
-        (MigratesInto (may_be_free (G.state place.now).contents) schema.now form folder.now)) result }
+    ensures reads { Reads F.FileSource source.old source.new (file.now ∷ [])
+        (λ r. RespondsAs (WithFile (rows_file schema.now) r file.now
+        (MigratesInto (may_be_free (G.state place.now).contents) schema.now form folder.now)) result) }
 {
     let rows = match open_rows(alloc, source, schema, file) {
         Ok(rows) => rows,
@@ -132,15 +119,11 @@ pub fn of_plan_and_rows_into<F: FileSource, G: Folder>(
     file: &Argument,
     folder: &Argument,
 ) -> Result<Response, EarlyExit>
-    ensures files { F.files source.new ≡ F.files source.old }
-    ensures later { F.faults source.old ≤ F.faults source.new }
-    ensures reads { BeginsFront (planned.now ∷ file.now ∷ [])
-        (F.begun source.old) (F.begun source.new) }
-    ensures response { (r : Reading) → Shows F.files F.faults F.taken F.begun source.old source.new r
-        → RespondsAs (WithFile (plan_file schema.now) r planned.now
+    ensures reads { Reads F.FileSource source.old source.new (planned.now ∷ file.now ∷ [])
+        (λ r. RespondsAs (WithFile (plan_file schema.now) r planned.now
         (λ plan. WithFile (rows_file schema.now) r file.now
         (MigratesPlanInto (may_be_free (G.state place.now).contents) schema.now plan.names plan.schemes
-        folder.now))) result }
+        folder.now))) result) }
 {
     let plan = match open_plan(alloc, source, schema, planned) {
         Ok(plan) => plan,

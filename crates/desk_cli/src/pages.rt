@@ -1,10 +1,9 @@
 //! Pages of a schema and the plan of a file.
 
-ghost use Rattle.std.specs.Prelude.{◌≡◌, ◌≤◌, ◌∷◌, []};
+ghost use Rattle.std.specs.Prelude.{◌∷◌, []};
+ghost use Rattle.desk_inputs.specs.FileCalls.{Reads};
 ghost use Rattle.desk_inputs.specs.FileKinds.{WithFile};
-ghost use Rattle.desk_inputs.specs.FilesBegun.{BeginsFront};
 ghost use Rattle.desk_inputs.specs.Plans.{plan_file};
-ghost use Rattle.desk_inputs.specs.Readings.{Reading, Shows};
 ghost use Rattle.desk_reports.specs.Reports.{ReportsPlan};
 ghost use Rattle.desk_responses.specs.Responses.{RespondsAs};
 
@@ -24,13 +23,9 @@ pub fn of_page_and_plan<F: FileSource>(
     own: &Argument,
     planned: &Argument,
 ) -> Result<Response, EarlyExit>
-    ensures files { F.files source.new ≡ F.files source.old }
-    ensures later { F.faults source.old ≤ F.faults source.new }
-    ensures reads { BeginsFront (planned.now ∷ [])
-        (F.begun source.old) (F.begun source.new) }
-    ensures response { (r : Reading) → Shows F.files F.faults F.taken F.begun source.old source.new r
-        → RespondsAs (WithFile (plan_file schema.now) r planned.now
-        (ReportsPlan own.now planned.now schema.now)) result }
+    ensures reads { Reads F.FileSource source.old source.new (planned.now ∷ [])
+        (λ r. RespondsAs (WithFile (plan_file schema.now) r planned.now
+        (ReportsPlan own.now planned.now schema.now)) result) }
 {
     let plan = match open_plan(alloc, source, schema, planned) {
         Ok(plan) => plan,

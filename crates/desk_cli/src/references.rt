@@ -1,12 +1,10 @@
 //! What is asked of the rows of several files under names of their own: the files are read one after the other, and
 //! then the question is put to what was read.
 
-ghost use Rattle.std.specs.Prelude.{◌≡◌, ◌≤◌, ◌∷◌, []};
-ghost use Rattle.desk_inputs.specs.FileKinds.{WithFile};
-ghost use Rattle.desk_inputs.specs.FilesBegun.{BeginsFront};
+ghost use Rattle.std.specs.Prelude.{◌∷◌, []};
+ghost use Rattle.desk_inputs.specs.FileCalls.{Reads};
+ghost use Rattle.desk_inputs.specs.FileKinds.{WithFile, WithFiles};
 ghost use Rattle.desk_inputs.specs.Headed.{headed_file};
-ghost use Rattle.desk_inputs.specs.HeadedFiles.{WithHeadedFiles};
-ghost use Rattle.desk_inputs.specs.Readings.{Reading, Shows};
 ghost use Rattle.desk_references.specs.Checks.{ChecksReferences};
 ghost use Rattle.desk_references.specs.Findings.{FindsReferences};
 ghost use Rattle.desk_responses.specs.Responses.{RespondsAs};
@@ -26,12 +24,8 @@ pub fn of_headed_files<F: FileSource>(
     source: &mut F,
     files: &[Argument],
 ) -> Result<Response, EarlyExit>
-    ensures files { F.files source.new ≡ F.files source.old }
-    ensures later { F.faults source.old ≤ F.faults source.new }
-    ensures reads { BeginsFront files.now
-        (F.begun source.old) (F.begun source.new) }
-    ensures response { (r : Reading) → Shows F.files F.faults F.taken F.begun source.old source.new r
-        → RespondsAs (WithHeadedFiles r files.now (FindsReferences files.now)) result }
+    ensures reads { Reads F.FileSource source.old source.new files.now
+        (λ r. RespondsAs (WithFiles headed_file r files.now (FindsReferences files.now)) result) }
 {
     let heads = match open_headed_files(alloc, source, files) {
         Ok(heads) => heads,
@@ -50,14 +44,10 @@ pub fn of_two_headed<F: FileSource>(
     other: &Argument,
     other_names: &Argument,
 ) -> Result<Response, EarlyExit>
-    ensures files { F.files source.new ≡ F.files source.old }
-    ensures later { F.faults source.old ≤ F.faults source.new }
-    ensures reads { BeginsFront (file.now ∷ other.now ∷ [])
-        (F.begun source.old) (F.begun source.new) }
-    ensures response { (r : Reading) → Shows F.files F.faults F.taken F.begun source.old source.new r
-        → RespondsAs (WithFile headed_file r file.now
+    ensures reads { Reads F.FileSource source.old source.new (file.now ∷ other.now ∷ [])
+        (λ r. RespondsAs (WithFile headed_file r file.now
         (λ own. WithFile headed_file r other.now
-        (λ others. ChecksReferences own names.now others other_names.now))) result }
+        (λ others. ChecksReferences own names.now others other_names.now))) result) }
 {
     let own = match open_headed(alloc, source, Purpose::Rules, file) {
         Ok(own) => own,

@@ -2,23 +2,22 @@
 //! question is put to what was read. What moves rows into tables stands in `migrations`, and what makes a page of
 //! a plan in `pages`; no function elsewhere in this crate reads a file.
 
-ghost use Rattle.std.specs.Prelude.{◌≡◌, ◌≤◌, ◌∷◌, []};
+ghost use Rattle.std.specs.Prelude.{◌∷◌, []};
 ghost use Rattle.desk_words.specs.Commands.{pair_question, plan_question, rows_question, rules_question, task_form};
 ghost use Rattle.table_join.specs.Tables.{tables_of};
 ghost use Rattle.desk_implication.specs.Certificates.{ChecksProof};
-ghost use Rattle.desk_inputs.specs.FileKinds.{WithFile};
+ghost use Rattle.desk_inputs.specs.FileCalls.{Reads};
+ghost use Rattle.desk_inputs.specs.FileKinds.{WithFile, WithFiles};
 ghost use Rattle.desk_outside.specs.FreeNames.{may_be_free};
-ghost use Rattle.desk_inputs.specs.FilesBegun.{BeginsFront};
 ghost use Rattle.desk_discovery.specs.AllDiscoveries.{FindsAllRules};
 ghost use Rattle.desk_inputs.specs.Headed.{headed_file, whole_file};
 ghost use Rattle.desk_implication.specs.Derivations.{ChecksDerivation};
 ghost use Rattle.desk_inputs.specs.Inputs.{derivation_file, proof_file, schema_file};
-ghost use Rattle.desk_inputs.specs.Parts.{WithParts};
+ghost use Rattle.desk_inputs.specs.Parts.{part_file};
 ghost use Rattle.desk_cli.specs.FilesRead.{files_of_task};
 ghost use Rattle.desk_cli.specs.Performs.{AnswersPair, AnswersPlan, AnswersRows, AnswersRules, Does, WithValues};
 ghost use Rattle.desk_measures.specs.Measures.{MeasuresRows};
 ghost use Rattle.desk_inputs.specs.Plans.{plan_file};
-ghost use Rattle.desk_inputs.specs.Readings.{Reading, Shows};
 ghost use Rattle.desk_tables.specs.Rejoining.{JoinsTables};
 ghost use Rattle.desk_responses.specs.Responses.{RespondsAs};
 ghost use Rattle.desk_inputs.specs.Rows.{rows_file};
@@ -52,13 +51,9 @@ pub fn over_schema<F: FileSource, G: Folder>(
     file: &Argument,
     task: Task<'_>,
 ) -> Result<Response, EarlyExit>
-    ensures files { F.files source.new ≡ F.files source.old }
-    ensures later { F.faults source.old ≤ F.faults source.new }
-    ensures reads { BeginsFront (file.now ∷ files_of_task (task_form task.entry))
-        (F.begun source.old) (F.begun source.new) }
-    ensures response { (r : Reading) → Shows F.files F.faults F.taken F.begun source.old source.new r
-        → RespondsAs (WithFile schema_file r file.now
-        (λ schema. Does (may_be_free (G.state place.now).contents) r schema (task_form task.entry))) result }
+    ensures reads { Reads F.FileSource source.old source.new (file.now ∷ files_of_task (task_form task.entry))
+        (λ r. RespondsAs (WithFile schema_file r file.now
+        (λ schema. Does (may_be_free (G.state place.now).contents) r schema (task_form task.entry))) result) }
 {
     let schema = match open_schema(alloc, source, file) {
         Ok(schema) => schema,
@@ -77,12 +72,8 @@ fn perform_task<F: FileSource, G: Folder>(
     schema: &Schema,
     task: Task<'_>,
 ) -> Result<Response, EarlyExit>
-    ensures files { F.files source.new ≡ F.files source.old }
-    ensures later { F.faults source.old ≤ F.faults source.new }
-    ensures reads { BeginsFront (files_of_task (task_form task.entry))
-        (F.begun source.old) (F.begun source.new) }
-    ensures response { (r : Reading) → Shows F.files F.faults F.taken F.begun source.old source.new r
-        → RespondsAs (Does (may_be_free (G.state place.now).contents) r schema.now (task_form task.entry)) result }
+    ensures reads { Reads F.FileSource source.old source.new (files_of_task (task_form task.entry))
+        (λ r. RespondsAs (Does (may_be_free (G.state place.now).contents) r schema.now (task_form task.entry)) result) }
 {
     match task {
         Task::OfSchema { question } => answer_schema(alloc, schema, question),
@@ -126,13 +117,9 @@ fn of_plan<F: FileSource>(
     file: &Argument,
     question: PlanQuestion<'_>,
 ) -> Result<Response, EarlyExit>
-    ensures files { F.files source.new ≡ F.files source.old }
-    ensures later { F.faults source.old ≤ F.faults source.new }
-    ensures reads { BeginsFront (file.now ∷ [])
-        (F.begun source.old) (F.begun source.new) }
-    ensures response { (r : Reading) → Shows F.files F.faults F.taken F.begun source.old source.new r
-        → RespondsAs (WithFile (plan_file schema.now) r file.now
-        (λ plan. AnswersPlan schema.now plan (plan_question question.entry))) result }
+    ensures reads { Reads F.FileSource source.old source.new (file.now ∷ [])
+        (λ r. RespondsAs (WithFile (plan_file schema.now) r file.now
+        (λ plan. AnswersPlan schema.now plan (plan_question question.entry))) result) }
 {
     let plan = match open_plan(alloc, source, schema, file) {
         Ok(plan) => plan,
@@ -150,13 +137,9 @@ fn of_rows<F: FileSource>(
     file: &Argument,
     question: RowsQuestion,
 ) -> Result<Response, EarlyExit>
-    ensures files { F.files source.new ≡ F.files source.old }
-    ensures later { F.faults source.old ≤ F.faults source.new }
-    ensures reads { BeginsFront (file.now ∷ [])
-        (F.begun source.old) (F.begun source.new) }
-    ensures response { (r : Reading) → Shows F.files F.faults F.taken F.begun source.old source.new r
-        → RespondsAs (WithFile (rows_file schema.now) r file.now
-        (λ rows. AnswersRows schema.now rows (rows_question question))) result }
+    ensures reads { Reads F.FileSource source.old source.new (file.now ∷ [])
+        (λ r. RespondsAs (WithFile (rows_file schema.now) r file.now
+        (λ rows. AnswersRows schema.now rows (rows_question question))) result) }
 {
     let rows = match open_rows(alloc, source, schema, file) {
         Ok(rows) => rows,
@@ -173,12 +156,8 @@ fn of_values<F: FileSource>(
     schema: &Schema,
     file: &Argument,
 ) -> Result<Response, EarlyExit>
-    ensures files { F.files source.new ≡ F.files source.old }
-    ensures later { F.faults source.old ≤ F.faults source.new }
-    ensures reads { BeginsFront (file.now ∷ [])
-        (F.begun source.old) (F.begun source.new) }
-    ensures response { (r : Reading) → Shows F.files F.faults F.taken F.begun source.old source.new r
-        → RespondsAs (WithValues r schema.now file.now (MeasuresRows schema.now)) result }
+    ensures reads { Reads F.FileSource source.old source.new (file.now ∷ [])
+        (λ r. RespondsAs (WithValues r schema.now file.now (MeasuresRows schema.now)) result) }
 {
     let texts = match text_columns_alone(alloc, schema) {
         Ok(texts) => texts,
@@ -199,13 +178,9 @@ fn of_proof<F: FileSource>(
     file: &Argument,
     goal: &Argument,
 ) -> Result<Response, EarlyExit>
-    ensures files { F.files source.new ≡ F.files source.old }
-    ensures later { F.faults source.old ≤ F.faults source.new }
-    ensures reads { BeginsFront (file.now ∷ [])
-        (F.begun source.old) (F.begun source.new) }
-    ensures response { (r : Reading) → Shows F.files F.faults F.taken F.begun source.old source.new r
-        → RespondsAs (WithFile (proof_file schema.now) r file.now
-        (λ tree. ChecksProof schema.now tree goal.now)) result }
+    ensures reads { Reads F.FileSource source.old source.new (file.now ∷ [])
+        (λ r. RespondsAs (WithFile (proof_file schema.now) r file.now
+        (λ tree. ChecksProof schema.now tree goal.now)) result) }
 {
     let read = match open_proof(alloc, source, schema, file) {
         Ok(read) => read,
@@ -222,13 +197,9 @@ fn of_derivation<F: FileSource>(
     file: &Argument,
     goal: &Argument,
 ) -> Result<Response, EarlyExit>
-    ensures files { F.files source.new ≡ F.files source.old }
-    ensures later { F.faults source.old ≤ F.faults source.new }
-    ensures reads { BeginsFront (file.now ∷ [])
-        (F.begun source.old) (F.begun source.new) }
-    ensures response { (r : Reading) → Shows F.files F.faults F.taken F.begun source.old source.new r
-        → RespondsAs (WithFile (derivation_file schema.now) r file.now
-        (λ lines. ChecksDerivation schema.now lines goal.now)) result }
+    ensures reads { Reads F.FileSource source.old source.new (file.now ∷ [])
+        (λ r. RespondsAs (WithFile (derivation_file schema.now) r file.now
+        (λ lines. ChecksDerivation schema.now lines goal.now)) result) }
 {
     let lines = match open_derivation(alloc, source, schema, file) {
         Ok(lines) => lines,
@@ -246,13 +217,9 @@ fn of_schemas<F: FileSource>(
     other_file: &Argument,
     question: PairQuestion,
 ) -> Result<Response, EarlyExit>
-    ensures files { F.files source.new ≡ F.files source.old }
-    ensures later { F.faults source.old ≤ F.faults source.new }
-    ensures reads { BeginsFront (other_file.now ∷ [])
-        (F.begun source.old) (F.begun source.new) }
-    ensures response { (r : Reading) → Shows F.files F.faults F.taken F.begun source.old source.new r
-        → RespondsAs (WithFile schema_file r other_file.now
-        (λ other. AnswersPair schema.now other file.now other_file.now (pair_question question))) result }
+    ensures reads { Reads F.FileSource source.old source.new (other_file.now ∷ [])
+        (λ r. RespondsAs (WithFile schema_file r other_file.now
+        (λ other. AnswersPair schema.now other file.now other_file.now (pair_question question))) result) }
 {
     let other = match open_schema(alloc, source, other_file) {
         Ok(other) => other,
@@ -269,12 +236,8 @@ fn of_parts<F: FileSource>(
     schema: &Schema,
     files: &[Argument],
 ) -> Result<Response, EarlyExit>
-    ensures files { F.files source.new ≡ F.files source.old }
-    ensures later { F.faults source.old ≤ F.faults source.new }
-    ensures reads { BeginsFront files.now
-        (F.begun source.old) (F.begun source.new) }
-    ensures response { (r : Reading) → Shows F.files F.faults F.taken F.begun source.old source.new r
-        → RespondsAs (WithParts r schema.now files.now (λ parts. JoinsTables schema.now (tables_of parts))) result }
+    ensures reads { Reads F.FileSource source.old source.new files.now
+        (λ r. RespondsAs (WithFiles (part_file schema.now) r files.now (λ parts. JoinsTables schema.now (tables_of parts))) result) }
 {
     let parts = match open_parts(alloc, source, schema, files) {
         Ok(parts) => parts,
@@ -295,13 +258,9 @@ pub fn of_headed<F: FileSource>(
     file: &Argument,
     question: RulesQuestion,
 ) -> Result<Response, EarlyExit>
-    ensures files { F.files source.new ≡ F.files source.old }
-    ensures later { F.faults source.old ≤ F.faults source.new }
-    ensures reads { BeginsFront (file.now ∷ [])
-        (F.begun source.old) (F.begun source.new) }
-    ensures response { (r : Reading) → Shows F.files F.faults F.taken F.begun source.old source.new r
-        → RespondsAs (WithFile headed_file r file.now
-        (AnswersRules (rules_question question) file.now)) result }
+    ensures reads { Reads F.FileSource source.old source.new (file.now ∷ [])
+        (λ r. RespondsAs (WithFile headed_file r file.now
+        (AnswersRules (rules_question question) file.now)) result) }
 {
     let headed = match open_headed(alloc, source, Purpose::Rules, file) {
         Ok(headed) => headed,
@@ -317,12 +276,8 @@ pub fn of_whole<F: FileSource>(
     source: &mut F,
     file: &Argument,
 ) -> Result<Response, EarlyExit>
-    ensures files { F.files source.new ≡ F.files source.old }
-    ensures later { F.faults source.old ≤ F.faults source.new }
-    ensures reads { BeginsFront (file.now ∷ [])
-        (F.begun source.old) (F.begun source.new) }
-    ensures response { (r : Reading) → Shows F.files F.faults F.taken F.begun source.old source.new r
-        → RespondsAs (WithFile whole_file r file.now FindsAllRules) result }
+    ensures reads { Reads F.FileSource source.old source.new (file.now ∷ [])
+        (λ r. RespondsAs (WithFile whole_file r file.now FindsAllRules) result) }
 {
     let headed = match open_headed(alloc, source, Purpose::AllRules, file) {
         Ok(headed) => headed,

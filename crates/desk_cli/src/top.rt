@@ -6,8 +6,7 @@ ghost use Rattle.desk_delivery.specs.Outcomes.{destinations_in_call, folder_in_c
 ghost use Rattle.desk_outside.specs.FreeNames.{may_be_free};
 ghost use Rattle.desk_cli.specs.FilesRead.{files_of_command, files_of_words};
 ghost use Rattle.desk_cli.specs.Performs.{Performs, Answers};
-ghost use Rattle.desk_inputs.specs.FilesBegun.{BeginsFront};
-ghost use Rattle.desk_inputs.specs.Readings.{Reading, Shows};
+ghost use Rattle.desk_inputs.specs.FileCalls.{Reads};
 ghost use Rattle.desk_responses.specs.Responses.{response_value, RespondsAs};
 
 use crate::help::{help, nearest_commands, version};
@@ -47,11 +46,7 @@ pub fn desk<F: FileSource, K: Sink, N: Sink, G: Folder>(
     own: &mut G,
 ) -> Result<Status, OutOfMemory>
     ensures desk { Desk words.now
-        (source_in_call (F.files source.old) (F.files source.new) (F.faults source.old)
-        (F.faults source.new)
-        (F.taken source.new)
-        (F.begun source.old)
-        (F.begun source.new))
+        (source_in_call F.FileSource source.old source.new)
         (sink_in_call (K.contents out.old) (K.contents out.new) (K.faults out.old) (K.faults out.new))
         (sink_in_call (N.contents notices.old) (N.contents notices.new) (N.faults notices.old) (N.faults notices.new))
         (destinations_in_call ⟦<Box<dyn Folder> as Folder>⟧.state destinations.old.items destinations.new.items)
@@ -82,11 +77,7 @@ fn desk_over<F: FileSource, K: Sink, N: Sink, D: Folder, G: Folder>(
     own: &mut G,
 ) -> Result<Status, OutOfMemory>
     ensures desk { Desk words.now
-        (source_in_call (F.files source.old) (F.files source.new) (F.faults source.old)
-        (F.faults source.new)
-        (F.taken source.new)
-        (F.begun source.old)
-        (F.begun source.new))
+        (source_in_call F.FileSource source.old source.new)
         (sink_in_call (K.contents out.old) (K.contents out.new) (K.faults out.old) (K.faults out.new))
         (sink_in_call (N.contents notices.old) (N.contents notices.new) (N.faults notices.old) (N.faults notices.new))
         (destinations_in_call D.state destinations.old.items destinations.new.items)
@@ -183,12 +174,9 @@ fn answer<F: FileSource, G: Folder>(
     source: &mut F,
     place: &G,
 ) -> Result<Response, OutOfMemory>
-    ensures files { F.files source.new ≡ F.files source.old }
-    ensures later { F.faults source.old ≤ F.faults source.new }
-    ensures reads { BeginsFront (files_of_words words.now) (F.begun source.old) (F.begun source.new) }
-    ensures response { (r : Reading) → Shows F.files F.faults F.taken F.begun source.old source.new r
-        → IfOk result (λ response. Answers (may_be_free (G.state place.now).contents) r words.now
-        (response_value response)) }
+    ensures reads { Reads F.FileSource source.old source.new (files_of_words words.now)
+        (λ r. IfOk result (λ response. Answers (may_be_free (G.state place.now).contents) r words.now
+        (response_value response))) }
 {
     match parse(words) {
         None => Ok(Response::with_text(
@@ -212,12 +200,8 @@ fn perform<F: FileSource, G: Folder>(
     source: &mut F,
     place: &G,
 ) -> Result<Response, EarlyExit>
-    ensures files { F.files source.new ≡ F.files source.old }
-    ensures later { F.faults source.old ≤ F.faults source.new }
-    ensures reads { BeginsFront (files_of_command (command_form command.entry))
-        (F.begun source.old) (F.begun source.new) }
-    ensures response { (r : Reading) → Shows F.files F.faults F.taken F.begun source.old source.new r
-        → RespondsAs (Performs (may_be_free (G.state place.now).contents) r (command_form command.entry)) result }
+    ensures reads { Reads F.FileSource source.old source.new (files_of_command (command_form command.entry))
+        (λ r. RespondsAs (Performs (may_be_free (G.state place.now).contents) r (command_form command.entry)) result) }
 {
     match command {
         Command::OverSchema { schema, task } => over_schema(

@@ -1,5 +1,6 @@
 pub mod BegunLemmas
-mod HeadedLemmas
-pub mod KindLemmas
-pub mod PartLemmas
+pub mod CallLemmas
+mod FilesLemmas
+mod KindLemmas
+mod PartLemmas
 pub mod ReadingLemmas

@@ -1,5 +1,6 @@
--- A kind of file, and how a file of it is read: for every command that reads one.
-use Rattle.std.specs.Prelude.{◌⊎◌, ℕ, List}
+-- A kind of file, and how files of it are read: for every command that reads one.
+use Rattle.std.specs.Prelude.{◌≡◌, ◌⊎◌, ℕ, List, take, slice_get, Some}
+use Rattle.std.specs.List.{AllZip}
 use Rattle.desk_responses.specs.declared.status.Status.TheVariants.{Refused, CannotRead}
 use Rattle.desk_responses.specs.ResponseValues.{Allowed, Says, With}
 use Rattle.desk_inputs.specs.Readings.{Reading, CannotBeRead, IsTooLong, IsContent}
@@ -43,3 +44,26 @@ FileStops {Value} {Refusal} kind r name response =
 -- a file is read, and then the rest follows
 abbrev pub WithFile : {Value Refusal : Type 0} → FileKind Value Refusal → Reading → List ℕ → (Value → Allowed) → Allowed
 WithFile kind r name = With (FileStops kind r name) (IsFile kind r name)
+
+-- ---- several files of a kind, read one after the other
+-- their texts mean these values
+abbrev pub AreFiles : {Value Refusal : Type 0} → FileKind Value Refusal → Reading → List (List ℕ) → List Value → Type 0
+AreFiles kind r names values = AllZip (IsFile kind r) names values
+
+-- the files before one were read, and its reading ends the command
+pub record FirstStops {Value Refusal : Type 0} (kind : FileKind Value Refusal) (r : Reading) (names : List (List ℕ))
+    : Type 0 where
+  pub position : ℕ
+  pub name : List ℕ
+  pub stands : slice_get names position ≡ Some name
+  pub earlier : List Value
+  pub before : AreFiles kind r (take position names) earlier
+
+-- how the reading of files ends a command: at the first that cannot be read
+abbrev pub FilesStop : {Value Refusal : Type 0} → FileKind Value Refusal → Reading → List (List ℕ) → Allowed
+FilesStop kind r names response = (first : FirstStops kind r names) × FileStops kind r first.name response
+
+-- files are read, and then the rest follows
+abbrev pub WithFiles : {Value Refusal : Type 0} → FileKind Value Refusal → Reading → List (List ℕ)
+    → (List Value → Allowed) → Allowed
+WithFiles kind r names = With (FilesStop kind r names) (AreFiles kind r names)

@@ -1,9 +1,7 @@
 -- What is known of the files while a command reads them: for every command that reads one.
 use Rattle.std.specs.Prelude.{⊤, ◌≡◌, ◌⊎◌, ℕ, ◌+◌, ◌≤◌, List, length, Option, Some, IfSome}
-use Rattle.desk_outside.specs.Begun.{Begun}
 use Rattle.desk_outside.specs.Causes.{ErrorCountIncreased}
 use Rattle.desk_outside.specs.Files.{Files, IsMissing, IsHeld, IsLonger}
-use Rattle.desk_inputs.specs.FilesBegun.{BeginsLast}
 
 -- what is known of the files: all of it, or what a file source made known in a call
 pub data Reading : Type 0 where
@@ -45,13 +43,3 @@ IsTooLong r name limit = TookMore r limit × IsLonger (files_in r) name limit ×
 -- a file of at most so many bytes has these
 abbrev pub IsContent : Reading → List ℕ → ℕ → List ℕ → Type 0
 IsContent r name limit bytes = IsHeld (files_in r) name bytes × (length bytes ≤ limit)
-
--- a reading allows for what a file source did from one state to a later one: it has the same files,
--- fails where the source failed, took a byte too many where the source did, and takes for the last file
--- one that the source may have begun last
-pub record Shows {S : Type 0} (files : S → Option Files) (faults taken : S → ℕ) (begun : S → Begun) (old new : S)
-    (r : Reading) : Type 0 where
-  pub same : files_in r ≡ files old
-  pub fails : ErrorCountIncreased (faults old) (faults new) → Fails r
-  pub takes : (limit : ℕ) → taken new ≡ limit + 1 → TookMore r limit
-  pub last : (name : List ℕ) → BeginsLast name (begun old) (begun new) → MayBeLast r name

@@ -1,15 +1,10 @@
-ghost use Rattle.std.specs.Prelude.{◌≡◌, ◌≤◌, ◌<◌, ◌∷◌, [], length, OnOk, IfOk, IfErr};
+ghost use Rattle.std.specs.Prelude.{◌≡◌, ◌≤◌, ◌<◌, length, IfOk};
 ghost use Rattle.dep_model.specs.Tuples.{IsOver};
 ghost use Rattle.headed_rows.specs.Headers.{IsHeaderWithin};
 ghost use Rattle.headed_rows.specs.Headings.{headed_of};
 ghost use Rattle.row_store.specs.declared.limits.TheConstants.{MOST_HEADED_ROWS};
-ghost use Rattle.desk_outside.specs.Begun.{Begins};
-ghost use Rattle.desk_inputs.specs.FilesBegun.{BeginsFront};
-ghost use Rattle.desk_inputs.specs.FileKinds.{FileStops, IsFile};
+ghost use Rattle.desk_inputs.specs.FileCalls.{OpensFile};
 ghost use Rattle.desk_inputs.specs.Headed.{command_for, file_for, headed_file_for, headed_refusal_text, limits_for};
-ghost use Rattle.desk_inputs.specs.Readings.{Reading, files_in, Shows};
-ghost use Rattle.desk_responses.specs.ResponseValues.{Says};
-ghost use Rattle.desk_responses.specs.Responses.{ExitsAs};
 
 use crate::read::open_file;
 use crate::rows::MOST_CSV_BYTES;
@@ -42,19 +37,13 @@ pub fn open_headed<F: FileSource>(
     purpose: Purpose,
     name: &Argument,
 ) -> Result<Headed, EarlyExit>
-    ensures files { F.files source.new ≡ F.files source.old }
-    ensures later { F.faults source.old ≤ F.faults source.new }
-    ensures begins { OnOk result (Begins name.now (F.begun source.old) (F.begun source.new)) }
-    ensures reads { BeginsFront (name.now ∷ []) (F.begun source.old) (F.begun source.new) }
-    ensures ok { (r : Reading) → files_in r ≡ F.files source.old
-        → IfOk result (λ headed. IsFile (file_for purpose) r name.now (headed_of headed)) }
+    ensures opens { OpensFile F.FileSource source.old source.new (file_for purpose) name.now
+        (λ headed. headed_of headed) result }
     ensures header { IfOk result (λ headed. IsHeaderWithin (limits_for purpose).columns headed.names.items) }
     ensures any_name { IfOk result (λ headed. 0 < length headed.names.items) }
     ensures same_width { IfOk result (λ headed. IsOver (length headed.names.items)
         headed.rows) }
     ensures within_limit { IfOk result (λ headed. length headed.rows ≤ (limits_for purpose).rows) }
-    ensures exit { (r : Reading) → Shows F.files F.faults F.taken F.begun source.old source.new r
-        → IfErr result (ExitsAs (FileStops (file_for purpose) r name.now)) }
 {
     open_headed_for(
         alloc,
@@ -106,19 +95,13 @@ fn open_headed_for<F: FileSource>(
     name: &Argument,
 ) -> Result<Headed, EarlyExit>
     requires rows { limits.rows ≤ MOST_HEADED_ROWS }
-    ensures files { F.files source.new ≡ F.files source.old }
-    ensures later { F.faults source.old ≤ F.faults source.new }
-    ensures begins { OnOk result (Begins name.now (F.begun source.old) (F.begun source.new)) }
-    ensures reads { BeginsFront (name.now ∷ []) (F.begun source.old) (F.begun source.new) }
-    ensures ok { (r : Reading) → files_in r ≡ F.files source.old
-        → IfOk result (λ headed. IsFile (headed_file_for command.now limits) r name.now (headed_of headed)) }
+    ensures opens { OpensFile F.FileSource source.old source.new (headed_file_for command.now limits) name.now
+        (λ headed. headed_of headed) result }
     ensures header { IfOk result (λ headed. IsHeaderWithin limits.columns headed.names.items) }
     ensures any_name { IfOk result (λ headed. 0 < length headed.names.items) }
     ensures same_width { IfOk result (λ headed. IsOver (length headed.names.items)
         headed.rows) }
     ensures within_limit { IfOk result (λ headed. length headed.rows ≤ limits.rows) }
-    ensures exit { (r : Reading) → Shows F.files F.faults F.taken F.begun source.old source.new r
-        → IfErr result (ExitsAs (FileStops (headed_file_for command.now limits) r name.now)) }
 {
     let bytes = match open_file(alloc, source, name, MOST_CSV_BYTES) {
         Ok(bytes) => bytes,
@@ -126,29 +109,12 @@ fn open_headed_for<F: FileSource>(
     };
     match read_headed(alloc, limits, &bytes) {
         Ok(headed) => Ok(headed),
-        Err(Failure::Refused(refusal)) => Err(headed_refusal_exit(
-            alloc,
-            command,
-            name.bytes(),
-            refusal,
+        Err(Failure::Refused(refusal)) => Err(EarlyExit::with_text(
+            Status::Refused,
+            headed_refusal_line(alloc, command, name.bytes(), refusal),
         )),
         Err(Failure::OutOfMemory) => Err(EarlyExit::OutOfMemory),
     }
-}
-
-// A command that ends with the refusal of such a file.
-fn headed_refusal_exit(
-    alloc: Global,
-    command: &[u8],
-    name: &[u8],
-    refusal: HeaderRefusal,
-) -> EarlyExit
-    ensures says { ExitsAs (Says Status.Refused (headed_refusal_text command.now name.now refusal)) result }
-{
-    EarlyExit::with_text(
-        Status::Refused,
-        headed_refusal_line(alloc, command, name, refusal),
-    )
 }
 
 // The line that words a refusal.

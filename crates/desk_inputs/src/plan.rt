@@ -1,4 +1,4 @@
-ghost use Rattle.std.specs.Prelude.{◌≡◌, ◌≤◌, ◌++◌, ◌∷◌, [], length, OnOk, IfOk, IfErr};
+ghost use Rattle.std.specs.Prelude.{◌≡◌, ◌≤◌, ◌++◌, [], length, IfOk};
 ghost use Rattle.std.specs.Fmt.{decimal};
 ghost use Rattle.dep_model.specs.Projections.{Covers};
 ghost use Rattle.schema_model.specs.Schemas.{width_of, theory_of, theory_in};
@@ -9,13 +9,8 @@ ghost use Rattle.plans.specs.Plans.{plan_of, scheme_sets, IsPlanOver};
 ghost use Rattle.plan_grammar.specs.RefusalTexts.{plan_reason_text};
 ghost use Rattle.plans.specs.declared.bounds.TheConstants.{MOST_SCHEMES};
 ghost use Rattle.plan_grammar.specs.declared.refusal.PlanRefusal.TheVariants as refusals;
-ghost use Rattle.desk_responses.specs.ResponseValues.{Says};
-ghost use Rattle.desk_outside.specs.Begun.{Begins};
-ghost use Rattle.desk_inputs.specs.FilesBegun.{BeginsFront};
-ghost use Rattle.desk_inputs.specs.FileKinds.{FileStops, IsFile};
+ghost use Rattle.desk_inputs.specs.FileCalls.{OpensFile};
 ghost use Rattle.desk_inputs.specs.Plans.{plan_file, plan_refusal_text};
-ghost use Rattle.desk_inputs.specs.Readings.{Reading, files_in, Shows};
-ghost use Rattle.desk_responses.specs.Responses.{ExitsAs};
 
 use crate::read::open_file;
 use arguments::Argument;
@@ -38,17 +33,11 @@ pub fn open_plan<F: FileSource>(
     schema: &Schema,
     name: &Argument,
 ) -> Result<NamedPlan, EarlyExit>
-    ensures files { F.files source.new ≡ F.files source.old }
-    ensures later { F.faults source.old ≤ F.faults source.new }
-    ensures begins { OnOk result (Begins name.now (F.begun source.old) (F.begun source.new)) }
-    ensures reads { BeginsFront (name.now ∷ []) (F.begun source.old) (F.begun source.new) }
-    ensures ok { (r : Reading) → files_in r ≡ F.files source.old
-        → IfOk result (λ plan. IsFile (plan_file schema.now) r name.now (named_schemes plan)) }
+    ensures opens { OpensFile F.FileSource source.old source.new (plan_file schema.now) name.now
+        (λ plan. named_schemes plan) result }
     ensures universe { IfOk result (λ plan. IsPlanOver (theory_in schema.now) plan.plan) }
     ensures within_limit { IfOk result (λ plan. length (plan_of plan.plan) ≤ MOST_SCHEMES) }
     ensures covers { IfOk result (λ plan. Covers (width_of schema.now) (plan_of plan.plan)) }
-    ensures exit { (r : Reading) → Shows F.files F.faults F.taken F.begun source.old source.new r
-        → IfErr result (ExitsAs (FileStops (plan_file schema.now) r name.now)) }
 {
     let bytes = match open_file(alloc, source, name, MOST_PLAN_BYTES) {
         Ok(bytes) => bytes,
@@ -56,11 +45,9 @@ pub fn open_plan<F: FileSource>(
     };
     match read_plan(alloc, schema, &bytes) {
         Ok(plan) => Ok(in_order(alloc, schema, plan)?),
-        Err(Failure::Refused(refusal)) => Err(plan_refusal_exit(
-            alloc,
-            schema,
-            name.bytes(),
-            refusal,
+        Err(Failure::Refused(refusal)) => Err(EarlyExit::with_text(
+            Status::Refused,
+            plan_refusal_line(alloc, schema, name.bytes(), refusal),
         )),
         Err(Failure::OutOfMemory) => Err(EarlyExit::OutOfMemory),
     }
@@ -79,17 +66,6 @@ fn in_order(alloc: Global, schema: &Schema, read: NamedPlan) -> Result<NamedPlan
         plan: read.plan,
         names,
     })
-}
-
-// A command that ends with the refusal of a plan.
-fn plan_refusal_exit(alloc: Global, schema: &Schema, name: &[u8], refusal: PlanRefusal) -> EarlyExit
-    ensures says { ExitsAs (Says Status.Refused
-        (plan_refusal_text (printed_names_of schema.now) name.now refusal)) result }
-{
-    EarlyExit::with_text(
-        Status::Refused,
-        plan_refusal_line(alloc, schema, name, refusal),
-    )
 }
 
 // The line that words a refusal of a plan.

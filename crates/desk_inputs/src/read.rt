@@ -1,18 +1,12 @@
-ghost use Rattle.std.specs.Prelude.{◌≡◌, ◌^◌, ◌<◌, ◌≤◌, ◌∷◌, [], length, OnOk, IfOk, IfErr};
+ghost use Rattle.std.specs.Prelude.{◌≡◌, ◌^◌, ◌<◌, ◌≤◌, length, IfOk};
 ghost use Rattle.schema_model.specs.Schemas.{universe_of, theory_in};
 ghost use Rattle.dep_model.specs.Deps.{dependency_of, IsDepWithin};
-ghost use Rattle.schema_printer.specs.Spelling.{printed_names_of};
 ghost use Rattle.derivation.specs.Conclusions.{Proves};
 ghost use Rattle.derivation.specs.Derivs.{tree_of};
-ghost use Rattle.proof_grammar.specs.Diagnostics.{line_diagnostic_of, IsRefusalWithin};
 ghost use Rattle.desk_responses.specs.ResponseValues.{Says};
-ghost use Rattle.desk_refusals.specs.ProofTexts.{proof_refusal_text};
 ghost use Rattle.desk_texts.specs.Texts.{cannot_read_text, too_long_text};
-ghost use Rattle.desk_outside.specs.Begun.{Begins};
-ghost use Rattle.desk_inputs.specs.FilesBegun.{BeginsFront};
-ghost use Rattle.desk_inputs.specs.FileKinds.{LoadStops, FileStops, IsFile};
+ghost use Rattle.desk_inputs.specs.FileCalls.{LoadsFile, OpensFile};
 ghost use Rattle.desk_inputs.specs.Inputs.{schema_file, proof_file};
-ghost use Rattle.desk_inputs.specs.Readings.{Reading, files_in, Shows, IsContent};
 ghost use Rattle.desk_responses.specs.Responses.{ExitsAs};
 
 use arguments::Argument;
@@ -21,7 +15,7 @@ use desk_outside::{FileSource, LoadRefusal, load};
 use desk_refusals::{proof_refusal_line, refusal_exit};
 use desk_responses::{EarlyExit, Status};
 use desk_texts::line_of;
-use proof_text::{Concluded, MOST_PROOF_BYTES, ProofRefusal, read_concluded};
+use proof_text::{Concluded, MOST_PROOF_BYTES, read_concluded};
 use schema_model::Schema;
 use schema_reader::{MOST_TEXT_BYTES, read_schema};
 use std::alloc::Global;
@@ -34,15 +28,8 @@ pub fn open_file<F: FileSource>(
     limit: usize,
 ) -> Result<Vec<u8>, EarlyExit>
     requires { limit < 2 ^ 32 }
-    ensures files { F.files source.new ≡ F.files source.old }
-    ensures later { F.faults source.old ≤ F.faults source.new }
-    ensures begins { OnOk result (Begins name.now (F.begun source.old) (F.begun source.new)) }
-    ensures reads { BeginsFront (name.now ∷ []) (F.begun source.old) (F.begun source.new) }
+    ensures loads { LoadsFile F.FileSource source.old source.new limit name.now (λ bytes. bytes.items) result }
     ensures within { IfOk result (λ bytes. length bytes.items ≤ limit) }
-    ensures ok { (r : Reading) → files_in r ≡ F.files source.old
-        → IfOk result (λ bytes. IsContent r name.now limit bytes.items) }
-    ensures exit { (r : Reading) → Shows F.files F.faults F.taken F.begun source.old source.new r
-        → IfErr result (ExitsAs (LoadStops r name.now limit)) }
 {
     match load(alloc, source, name.bytes(), limit) {
         Ok(bytes) => Ok(bytes),
@@ -84,14 +71,8 @@ pub fn open_schema<F: FileSource>(
     source: &mut F,
     name: &Argument,
 ) -> Result<Schema, EarlyExit>
-    ensures files { F.files source.new ≡ F.files source.old }
-    ensures later { F.faults source.old ≤ F.faults source.new }
-    ensures begins { OnOk result (Begins name.now (F.begun source.old) (F.begun source.new)) }
-    ensures reads { BeginsFront (name.now ∷ []) (F.begun source.old) (F.begun source.new) }
-    ensures ok { (r : Reading) → files_in r ≡ F.files source.old
-        → IfOk result (IsFile schema_file r name.now) }
-    ensures exit { (r : Reading) → Shows F.files F.faults F.taken F.begun source.old source.new r
-        → IfErr result (ExitsAs (FileStops schema_file r name.now)) }
+    ensures opens { OpensFile F.FileSource source.old source.new schema_file name.now
+        (λ schema. schema) result }
 {
     let bytes = match open_file(alloc, source, name, MOST_TEXT_BYTES) {
         Ok(bytes) => bytes,
@@ -116,17 +97,11 @@ pub fn open_proof<F: FileSource>(
     schema: &Schema,
     name: &Argument,
 ) -> Result<Concluded, EarlyExit>
-    ensures files { F.files source.new ≡ F.files source.old }
-    ensures later { F.faults source.old ≤ F.faults source.new }
-    ensures begins { OnOk result (Begins name.now (F.begun source.old) (F.begun source.new)) }
-    ensures reads { BeginsFront (name.now ∷ []) (F.begun source.old) (F.begun source.new) }
-    ensures ok { (r : Reading) → files_in r ≡ F.files source.old
-        → IfOk result (λ read. IsFile (proof_file schema.now) r name.now (tree_of read.deriv.value)) }
+    ensures opens { OpensFile F.FileSource source.old source.new (proof_file schema.now) name.now
+        (λ read. tree_of read.deriv.value) result }
     ensures concludes { IfOk result
         (λ read. Proves (theory_in schema.now) (tree_of read.deriv.value) (dependency_of read.dep)) }
     ensures within { IfOk result (λ read. IsDepWithin (universe_of schema.now) read.dep) }
-    ensures exit { (r : Reading) → Shows F.files F.faults F.taken F.begun source.old source.new r
-        → IfErr result (ExitsAs (FileStops (proof_file schema.now) r name.now)) }
 {
     let bytes = match open_file(alloc, source, name, MOST_PROOF_BYTES) {
         Ok(bytes) => bytes,
@@ -134,29 +109,10 @@ pub fn open_proof<F: FileSource>(
     };
     match read_concluded(alloc, schema, &bytes) {
         Ok(read) => Ok(read),
-        Err(Failure::Refused(refusal)) => Err(proof_refusal_exit(
-            alloc,
-            schema,
-            name.bytes(),
-            refusal,
+        Err(Failure::Refused(refusal)) => Err(EarlyExit::with_text(
+            Status::Refused,
+            proof_refusal_line(alloc, schema, name.bytes(), refusal),
         )),
         Err(Failure::OutOfMemory) => Err(EarlyExit::OutOfMemory),
     }
-}
-
-// A command that ends with the refusal of a certificate.
-fn proof_refusal_exit(
-    alloc: Global,
-    schema: &Schema,
-    name: &[u8],
-    refusal: ProofRefusal,
-) -> EarlyExit
-    requires within { IsRefusalWithin (universe_of schema.now) refusal.kind }
-    ensures says { ExitsAs (Says Status.Refused
-        (proof_refusal_text (printed_names_of schema.now) name.now (line_diagnostic_of refusal))) result }
-{
-    EarlyExit::with_text(
-        Status::Refused,
-        proof_refusal_line(alloc, schema, name, refusal),
-    )
 }

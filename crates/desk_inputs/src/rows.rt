@@ -1,20 +1,15 @@
-ghost use Rattle.std.specs.Prelude.{◌≡◌, ◌≤◌, ◌∷◌, [], length, OnOk, IfOk, IfErr};
+ghost use Rattle.std.specs.Prelude.{◌≤◌, length, IfOk};
 ghost use Rattle.csv_rows.specs.declared.reading.TheConstants.{MOST_ROWS};
 ghost use Rattle.column_values.specs.Values.{FitsColumns};
 ghost use Rattle.schema_model.specs.Schemas.{width_of};
 ghost use Rattle.dep_model.specs.Tuples.{IsOver};
-ghost use Rattle.desk_responses.specs.ResponseValues.{Says};
-ghost use Rattle.desk_inputs.specs.Readings.{Reading, files_in, Shows};
-ghost use Rattle.desk_responses.specs.Responses.{ExitsAs};
-ghost use Rattle.desk_outside.specs.Begun.{Begins};
-ghost use Rattle.desk_inputs.specs.FilesBegun.{BeginsFront};
-ghost use Rattle.desk_inputs.specs.FileKinds.{FileStops, IsFile};
-ghost use Rattle.desk_inputs.specs.Rows.{rows_file, row_refusal_text};
+ghost use Rattle.desk_inputs.specs.FileCalls.{OpensFile};
+ghost use Rattle.desk_inputs.specs.Rows.{rows_file};
 
 use crate::read::open_file;
 use crate::row_refusals::row_refusal_line;
 use arguments::Argument;
-use csv_rows::{RowRefusal, read_rows};
+use csv_rows::read_rows;
 use dep_model::Failure;
 use desk_outside::FileSource;
 use desk_responses::{EarlyExit, Status};
@@ -32,17 +27,11 @@ pub fn open_rows<F: FileSource>(
     schema: &Schema,
     name: &Argument,
 ) -> Result<Rows, EarlyExit>
-    ensures files { F.files source.new ≡ F.files source.old }
-    ensures later { F.faults source.old ≤ F.faults source.new }
-    ensures begins { OnOk result (Begins name.now (F.begun source.old) (F.begun source.new)) }
-    ensures reads { BeginsFront (name.now ∷ []) (F.begun source.old) (F.begun source.new) }
-    ensures ok { (r : Reading) → files_in r ≡ F.files source.old
-        → IfOk result (λ rows. IsFile (rows_file schema.now) r name.now rows) }
+    ensures opens { OpensFile F.FileSource source.old source.new (rows_file schema.now) name.now
+        (λ rows. rows) result }
     ensures over { IfOk result (λ rows. IsOver (width_of schema.now) rows) }
     ensures within_limit { IfOk result (λ rows. length rows ≤ MOST_ROWS) }
     ensures fits { IfOk result (λ rows. FitsColumns schema.now rows) }
-    ensures exit { (r : Reading) → Shows F.files F.faults F.taken F.begun source.old source.new r
-        → IfErr result (ExitsAs (FileStops (rows_file schema.now) r name.now)) }
 {
     let bytes = match open_file(alloc, source, name, MOST_CSV_BYTES) {
         Ok(bytes) => bytes,
@@ -50,28 +39,10 @@ pub fn open_rows<F: FileSource>(
     };
     match read_rows(alloc, schema, &bytes) {
         Ok(rows) => Ok(rows),
-        Err(Failure::Refused(refusal)) => Err(rows_refusal_exit(
-            alloc,
-            schema,
-            name.bytes(),
-            refusal,
+        Err(Failure::Refused(refusal)) => Err(EarlyExit::with_text(
+            Status::Refused,
+            row_refusal_line(alloc, schema, name.bytes(), refusal),
         )),
         Err(Failure::OutOfMemory) => Err(EarlyExit::OutOfMemory),
     }
-}
-
-/// A command that ends with the refusal of rows.
-pub fn rows_refusal_exit(
-    alloc: Global,
-    schema: &Schema,
-    name: &[u8],
-    refusal: RowRefusal,
-) -> EarlyExit
-    ensures says { ExitsAs (Says Status.Refused
-        (row_refusal_text schema.now name.now refusal)) result }
-{
-    EarlyExit::with_text(
-        Status::Refused,
-        row_refusal_line(alloc, schema, name, refusal),
-    )
 }

@@ -26,7 +26,7 @@ use Rattle.desk_discovery.specs.Discoveries.{FindsRules, FindsSmallRules, HasToo
 use Rattle.desk_discovery.specs.AllDiscoveries.{FindsAllRules}
 use Rattle.desk_discovery.specs.NearDiscoveries.{FindsNearRules}
 use Rattle.desk_discovery.specs.KeyDiscoveries.{FindsRowKeys}
-use Rattle.desk_inputs.specs.FileKinds.{IsFile, WithFile}
+use Rattle.desk_inputs.specs.FileKinds.{AreFiles, IsFile, WithFile, WithFiles}
 use Rattle.desk_inputs.specs.Headed.{headed_file, headed_file_for, imported, imported_file, whole_file, wholly_discovered}
 use Rattle.desk_words.specs.Forms.{after_discover, discover_in_one, form_of, form_over_rows, form_over_schema, schema_and_several, are_one_to_64, after_import, word_alone}
 use Rattle.desk_words.specs.Numbers.{is_left_bound, is_short_number, is_row_bound}
@@ -34,7 +34,7 @@ use Rattle.desk_imports.specs.Columns.{ImportsColumns}
 use Rattle.desk_inputs.specs.Inputs.{schema_file}
 use Rattle.desk_cli.specs.Performs.{Answers, AnswersRules, Performs, Does}
 use Rattle.desk_inputs.specs.Readings.{known_files}
-use Rattle.desk_inputs.specs.Parts.{ArePartFiles, WithParts}
+use Rattle.desk_inputs.specs.Parts.{part_file}
 use Rattle.desk_tables.specs.Rejoining.{HaveLookUps, JoinsTables, joined_tables, looked_up_tables}
 use Rattle.plan_laws.proofs.JoinAnswers.{answered_rows}
 use Rattle.table_join.specs.LookUps.{AreJoinedAndLookedUp}
@@ -212,12 +212,12 @@ joins_tables s tables response none covers small (inr (not_so, inr (TooManyRows 
 
 pub rejoin_asks : (files : Files) (name : List ℕ) (names : List (List ℕ)) (looks : Looks) (response : ResponseValue) → are_one_to_64 names ≡ true
     → Answers looks (known_files files) (codes "rejoin" ∷ name ∷ names) response
-    → WithFile schema_file (known_files files) name (λ r. WithParts (known_files files) r names (λ parts. JoinsTables r (tables_of parts))) response
+    → WithFile schema_file (known_files files) name (λ r. WithFiles (part_file r) (known_files files) names (λ parts. JoinsTables r (tables_of parts))) response
 unfolding form_of form_over_schema form_over_rows schema_and_several Performs Does
 rejoin_asks files name names looks response within_limit answered = (rw within_limit at answered)
 
 pub rejoin_answered : (files : Files) (name : List ℕ) (names : List (List ℕ)) (schema : Schema) (parts : List PartialRows)
-    → IsFile schema_file (known_files files) name schema → are_one_to_64 names ≡ true → ArePartFiles (known_files files) schema names parts
+    → IsFile schema_file (known_files files) name schema → are_one_to_64 names ≡ true → AreFiles (part_file schema) (known_files files) names parts
     → ((keyed : List KeyedScheme) (counts : List ℕ) → HaveLookUps schema (tables_of parts) keyed counts → ⊥)
     → Covers (width_of schema) (plan_of_tables (tables_of parts))
     → KeepsInEither (width_of schema) (tables_of parts)
@@ -226,12 +226,12 @@ rejoin_answered files name names schema parts file within_limit are none covers 
     joins_tables schema (tables_of parts) response none covers small
     (after_parts files schema names parts (JoinsTables schema) response are
     (after_schema files name schema
-    (λ r. WithParts (known_files files) r names (λ others. JoinsTables r (tables_of others))) response file
+    (λ r. WithFiles (part_file r) (known_files files) names (λ others. JoinsTables r (tables_of others))) response file
     (rejoin_asks files name names looks response within_limit answered)))
 
 pub rejoin_answered_looking_up : (files : Files) (name : List ℕ) (names : List (List ℕ)) (schema : Schema) (parts : List PartialRows)
     (keyed : List KeyedScheme) (counts : List ℕ) (rows : Relation) → IsFile schema_file (known_files files) name schema
-    → are_one_to_64 names ≡ true → ArePartFiles (known_files files) schema names parts
+    → are_one_to_64 names ≡ true → AreFiles (part_file schema) (known_files files) names parts
     → HaveLookUps schema (tables_of parts) keyed counts → Covers (width_of schema) (plan_of_tables (tables_of parts))
     → AreJoinedAndLookedUp (width_of schema) (nullable_of schema) MOST_JOINED_ROWS
     (joined_tables schema (tables_of parts) keyed) (looked_up_tables schema (tables_of parts) keyed counts) rows
@@ -241,5 +241,5 @@ rejoin_answered_looking_up files name names schema parts keyed counts rows file 
     (answered_rows schema (tables_of parts) keyed counts have rows response covers joined
     (after_parts files schema names parts (JoinsTables schema) response are
     (after_schema files name schema
-    (λ r. WithParts (known_files files) r names (λ others. JoinsTables r (tables_of others))) response file
+    (λ r. WithFiles (part_file r) (known_files files) names (λ others. JoinsTables r (tables_of others))) response file
     (rejoin_asks files name names looks response within_limit answered)))))

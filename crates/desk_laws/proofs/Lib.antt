@@ -6,6 +6,7 @@ pub mod TableLaws
 mod FormLaws
 mod OneText
 mod OneFile
+mod OneFiles
 mod ImportLaws
 pub mod FileLaws
 pub mod QuestionLaws
@@ -19,7 +20,6 @@ mod OneInput
 mod OnePage
 mod FindingLaws
 mod OneMeasure
-mod OneHeadedFiles
 mod OneReferences
 mod ReferenceLaws
 mod OneTask

@@ -17,7 +17,7 @@ use Rattle.desk_inputs.specs.Inputs.{schema_file}
 use Rattle.desk_inputs.specs.Readings.{known_files}
 use Rattle.desk_laws.proofs.ImportLaws.{one_import_of_sql}
 use Rattle.desk_laws.proofs.OneFile.{one_after_file, two_after_file}
-use Rattle.desk_laws.proofs.OneHeadedFiles.{one_after_headed_files}
+use Rattle.desk_laws.proofs.OneInput.{one_after_headed_files}
 use Rattle.desk_laws.proofs.OneReferences.{one_checked, one_found}
 use Rattle.desk_laws.proofs.OneTask.{one_task}
 use Rattle.desk_laws.proofs.OneText.{headed_text_once, schema_once}

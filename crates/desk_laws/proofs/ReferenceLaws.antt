@@ -4,9 +4,8 @@ use Rattle.std.proofs.lemmas.Bool.{and_parts}
 use Rattle.std.specs.Prelude.{codes}
 use Rattle.headed_rows.specs.Headings.{HeadedRows, discovered}
 use Rattle.desk_cli.specs.Performs.{Answers, Performs}
-use Rattle.desk_inputs.specs.FileKinds.{IsFile, WithFile}
+use Rattle.desk_inputs.specs.FileKinds.{AreFiles, IsFile, WithFile, WithFiles}
 use Rattle.desk_inputs.specs.Headed.{headed_file}
-use Rattle.desk_inputs.specs.HeadedFiles.{AreHeadedFiles, WithHeadedFiles}
 use Rattle.desk_inputs.specs.Readings.{known_files}
 use Rattle.desk_outside.specs.Files.{Files}
 use Rattle.desk_references.specs.Checks.{ChecksReferences, JudgesReference}
@@ -18,7 +17,7 @@ use Rattle.desk_words.specs.Forms.{after_check, after_discover, are_one_to_64, f
 use Rattle.desk_words.specs.declared.command.TheConstants.{MOST_FILES}
 use Rattle.desk_laws.specs.Completeness.{IsAnswered, IsAnsweredYes, IsYesOrNo}
 use Rattle.desk_laws.proofs.OneFile.{after_file}
-use Rattle.desk_laws.proofs.OneHeadedFiles.{after_headed_files}
+use Rattle.desk_laws.proofs.OneInput.{after_headed_files}
 use Rattle.desk_laws.proofs.OneReferences.{judged}
 use Rattle.desk_laws.proofs.OneText.{headed_text_once}
 use Rattle.desk_laws.proofs.StopLemmas.{status_is}
@@ -27,12 +26,12 @@ use Rattle.desk_laws.proofs.StopLemmas.{status_is}
 references_ask : (files : Files) (names : List (List ℕ)) (looks : Looks) (response : ResponseValue)
     → nat_lt 0 (length names) ≡ true → nat_le (length names) MOST_FILES ≡ true
     → Answers looks (known_files files) (codes "discover" ∷ codes "references" ∷ names) response
-    → WithHeadedFiles (known_files files) names (FindsReferences names) response
+    → WithFiles headed_file (known_files files) names (FindsReferences names) response
 unfolding form_of after_discover several_files Performs
 references_ask files names looks response some few answered = (rw (some, few) at answered)
 
 pub references_answered : (files : Files) (names : List (List ℕ)) (read : List HeadedRows)
-    → are_one_to_64 names ≡ true → AreHeadedFiles (known_files files) names read
+    → are_one_to_64 names ≡ true → AreFiles headed_file (known_files files) names read
     → IsAnsweredYes files (codes "discover" ∷ codes "references" ∷ names)
 references_answered files names read many are looks response answered =
     let parts = and_parts (nat_lt 0 (length names)) (nat_le (length names) MOST_FILES) many in

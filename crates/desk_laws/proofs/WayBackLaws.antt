@@ -42,9 +42,9 @@ use Rattle.destinations.specs.Formats.{table_text}
 use Rattle.destinations.specs.declared.format.TableFormat.TheVariants.{Csv}
 use Rattle.desk_outside.specs.Files.{Files}
 use Rattle.desk_responses.specs.ResponseValues.{ResponseValue}
-use Rattle.desk_inputs.specs.FileKinds.{IsFile}
+use Rattle.desk_inputs.specs.FileKinds.{IsFile, WithFiles}
 use Rattle.desk_inputs.specs.Inputs.{schema_file}
-use Rattle.desk_inputs.specs.Parts.{MeansPart, WithParts, part_file}
+use Rattle.desk_inputs.specs.Parts.{MeansPart, part_file}
 use Rattle.desk_inputs.specs.Readings.{known_files}
 use Rattle.desk_words.specs.Forms.{are_one_to_64}
 use Rattle.desk_tables.specs.OwnFolders.{Looks}
@@ -214,7 +214,7 @@ module _ (files : Files) (looks : Looks) (name : List ℕ) (others : List (List 
       there_and_back s names plan rows tables (tables_of (map (part_for s rows) ds)) migrated.lossless migrated.readable
       migrated.are (have ds moved) migrated.planned migrated.legal migrated.tidy response
       (after_parts files s others (map (part_for s rows) ds) (JoinsTables s) response are_files
-      (after_schema files name s (λ r. WithParts (known_files files) r others (λ ps. JoinsTables r (tables_of ps))) response file
+      (after_schema files name s (λ r. WithFiles (part_file r) (known_files files) others (λ ps. JoinsTables r (tables_of ps))) response file
       (rejoin_asks files name others looks response few answered)))
 
 pub way_back : FilesAreRejoined

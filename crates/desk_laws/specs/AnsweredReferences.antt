@@ -3,9 +3,8 @@
 use Rattle.std.specs.Prelude.{◌≡◌, ℕ, true, List, [], ◌∷◌, codes, length}
 use Rattle.headed_rows.specs.Headings.{HeadedRows}
 use Rattle.desk_outside.specs.Files.{Files}
-use Rattle.desk_inputs.specs.FileKinds.{IsFile}
+use Rattle.desk_inputs.specs.FileKinds.{AreFiles, IsFile}
 use Rattle.desk_inputs.specs.Headed.{headed_file}
-use Rattle.desk_inputs.specs.HeadedFiles.{AreHeadedFiles}
 use Rattle.desk_inputs.specs.Readings.{known_files}
 use Rattle.desk_references.specs.ColumnLists.{AreColumns}
 use Rattle.desk_words.specs.Forms.{are_one_to_64}
@@ -16,7 +15,7 @@ use Rattle.desk_laws.specs.Completeness.{IsAnswered, IsAnsweredYes}
 abbrev pub DiscoverReferencesIsAnswered : Type 0
 DiscoverReferencesIsAnswered =
     (files : Files) (names : List (List ℕ)) (read : List HeadedRows)
-    → are_one_to_64 names ≡ true → AreHeadedFiles (known_files files) names read
+    → are_one_to_64 names ≡ true → AreFiles headed_file (known_files files) names read
     → IsAnsweredYes files (codes "discover" ∷ codes "references" ∷ names)
 
 -- `check references` is answered where two CSV files each have a header that names its columns, and rows under it, and

@@ -25,7 +25,7 @@ use Rattle.desk_discovery.specs.Discoveries.{HasTooManyLeftSides}
 use Rattle.optional_tables.specs.declared.keyed.KeyedScheme.{KeyedScheme}
 use Rattle.desk_tables.specs.Rejoining.{HaveLookUps, joined_tables, looked_up_tables}
 use Rattle.desk_tables.specs.declared.rejoining.TheConstants.{MOST_JOINED_ROWS}
-use Rattle.desk_inputs.specs.FileKinds.{IsFile}
+use Rattle.desk_inputs.specs.FileKinds.{AreFiles, IsFile}
 use Rattle.desk_inputs.specs.Headed.{headed_file, imported_file, whole_file}
 use Rattle.desk_inputs.specs.Sql.{sql_file}
 use Rattle.sql_definitions.specs.Wanted.{TableName, wanted_table}
@@ -38,7 +38,7 @@ use Rattle.desk_words.specs.Numbers.{is_count, is_left_bound, is_row_bound}
 use Rattle.desk_designs.specs.NormalForms.{form_word, tested_word}
 use Rattle.desk_inputs.specs.Plans.{plan_file}
 use Rattle.desk_inputs.specs.Readings.{known_files}
-use Rattle.desk_inputs.specs.Parts.{ArePartFiles}
+use Rattle.desk_inputs.specs.Parts.{part_file}
 use Rattle.desk_inputs.specs.Rows.{rows_file}
 use Rattle.which_form.specs.declared.forms.TestedForm.{TestedForm}
 use Rattle.desk_laws.specs.Completeness.{IsAnswered, HasPlanInForm, NamesNoTable, RequiresAll}
@@ -253,7 +253,7 @@ RejoinIsAnswered =
     (files : Files) (name : List ℕ) (names : List (List ℕ)) (schema : Schema)
     (parts : List PartialRows)
     → IsFile schema_file (known_files files) name schema → are_one_to_64 names ≡ true
-    → ArePartFiles (known_files files) schema names parts
+    → AreFiles (part_file schema) (known_files files) names parts
     → ((keyed : List KeyedScheme) (counts : List ℕ) → HaveLookUps schema (tables_of parts) keyed counts → ⊥)
     → Covers (width_of schema) (plan_of_tables (tables_of parts))
     → IsWithinLimit (width_of schema) MOST_JOINED_ROWS (tables_of parts)
@@ -267,7 +267,7 @@ RejoinIsAnsweredLookingUp =
     (files : Files) (name : List ℕ) (names : List (List ℕ)) (schema : Schema)
     (parts : List PartialRows) (keyed : List KeyedScheme) (counts : List ℕ) (rows : Relation)
     → IsFile schema_file (known_files files) name schema → are_one_to_64 names ≡ true
-    → ArePartFiles (known_files files) schema names parts
+    → AreFiles (part_file schema) (known_files files) names parts
     → HaveLookUps schema (tables_of parts) keyed counts
     → Covers (width_of schema) (plan_of_tables (tables_of parts))
     → AreJoinedAndLookedUp (width_of schema) (nullable_of schema) MOST_JOINED_ROWS

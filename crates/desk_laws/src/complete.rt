@@ -22,13 +22,11 @@ pub fn answered_calls_end<F: FileSource, D: Folder, G: Folder>()
         (sink notices : SinkInCall)
         (old new : List (Destination D)) (folder filled : G) (result : Result Status OutOfMemory)
         → Desk words
-        (source_in_call (F.files source) (F.files after) (F.faults source) (F.faults after) (F.taken after)
-        (F.begun source) (F.begun after))
+        (source_in_call F.FileSource source after)
         sink notices (destinations_in_call D.state old new)
         (folder_in_call G.state folder filled) result
         → FailsNowhere files
-        (source_in_call (F.files source) (F.files after) (F.faults source) (F.faults after) (F.taken after)
-        (F.begun source) (F.begun after))
+        (source_in_call F.FileSource source after)
         sink (destinations_in_call D.state old new)
         (folder_in_call G.state folder filled)
         → IsAnsweredBy (may_be_free (G.state folder).contents) files words

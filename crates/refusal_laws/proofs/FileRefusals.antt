@@ -32,11 +32,10 @@ use Rattle.headed_rows.specs.RefusalTexts.{headed_reason_text, headed_refusal_nu
 use Rattle.headed_rows.specs.declared.headed_rows.Limits.{Limits}
 use Rattle.headed_rows.specs.declared.refusal.HeaderRefusal.{HeaderRefusal}
 use Rattle.desk_arguments.specs.Goals.{GoalStops, IsGoal, IsSetText, SetStops, WithGoal, WithSet}
-use Rattle.desk_inputs.specs.FileKinds.{FileKind, FileStops, IsFile, LoadStops, WithFile}
+use Rattle.desk_inputs.specs.FileKinds.{FileKind, AreFiles, FileStops, FilesStop, IsFile, LoadStops, WithFile, WithFiles}
 use Rattle.desk_inputs.specs.Headed.{headed_file, headed_file_for, headed_refusal_text}
-use Rattle.desk_inputs.specs.HeadedFiles.{AreHeadedFiles, HeadedFilesStop, WithHeadedFiles}
 use Rattle.desk_inputs.specs.Inputs.{derivation_file, proof_file, schema_file}
-use Rattle.desk_inputs.specs.Parts.{ArePartFiles, PartsStop, WithParts, part_file}
+use Rattle.desk_inputs.specs.Parts.{part_file}
 use Rattle.desk_inputs.specs.Plans.{plan_file, plan_refusal_text}
 use Rattle.desk_inputs.specs.Readings.{Reading}
 use Rattle.desk_inputs.specs.Rows.{row_refusal_text, rows_file}
@@ -189,33 +188,32 @@ module _ (names : List (List ℕ)) where
           after_file (derivation_file s) r file given (λ why. derivation_refusal s are_names file why given) rest
           (λ lines is. later lines)
 
-  -- files of tables, all of which are named
-  parts_stop : (r : Reading) (s : Schema) → All IsName (names_of s) → (files : List (List ℕ))
-      → ((file : List ℕ) → Contains files file → Contains names file) → RefusesSo names (PartsStop r s files)
-  parts_stop r s are_names files each response (first, stops) refused =
-      let given = each first.name (listed files first.position first.name first.stands) in
-      file_refuses (part_file s) r first.name given (λ why. rows_refusal s are_names first.name why given) response stops refused
+  -- ---- several files, all of which are named
+  module _ {Value Refusal : Type 0} (kind : FileKind Value Refusal) (r : Reading) (files : List (List ℕ))
+      (are_named : (file : List ℕ) → Contains files file → Contains names file)
+      (each : (file : List ℕ) (why : Refusal) → Contains names file → IsRefusal names (kind.refusal_text file why)) where
+    files_refuse : RefusesSo names (FilesStop kind r files)
+    files_refuse response (first, stops) refused =
+        let given = are_named first.name (listed files first.position first.name first.stands) in
+        file_refuses kind r first.name given (λ why. each first.name why given) response stops refused
 
+    after_files : (rest : List Value → Allowed) → ((values : List Value) → RefusesSo names (rest values))
+        → RefusesSo names (WithFiles kind r files rest)
+    after_files rest later = with_refuses names (FilesStop kind r files) (AreFiles kind r files) rest files_refuse (λ values are. later values)
+
+  -- files of tables
   pub after_parts : (r : Reading) (s : Schema) → All IsName (names_of s) → (files : List (List ℕ))
       → ((file : List ℕ) → Contains files file → Contains names file) → (rest : List PartialRows → Allowed)
-      → ((parts : List PartialRows) → RefusesSo names (rest parts)) → RefusesSo names (WithParts r s files rest)
-  after_parts r s are_names files each rest later =
-      with_refuses names (PartsStop r s files) (ArePartFiles r s files) rest (parts_stop r s are_names files each)
-      (λ parts are. later parts)
+      → ((parts : List PartialRows) → RefusesSo names (rest parts)) → RefusesSo names (WithFiles (part_file s) r files rest)
+  after_parts r s are_names files are_named rest later =
+      after_files (part_file s) r files are_named (λ file why given. rows_refusal s are_names file why given) rest later
 
-  -- files of rows under names of their own, all of which are named
-  headed_files_stop : (r : Reading) (files : List (List ℕ)) → ((file : List ℕ) → Contains files file → Contains names file)
-      → RefusesSo names (HeadedFilesStop r files)
-  headed_files_stop r files each response (first, stops) refused =
-      let given = each first.name (listed files first.position first.name first.stands) in
-      file_refuses headed_file r first.name given (λ why. headed_refusal (codes "discover") first.name why refl given) response stops refused
-
+  -- files of rows under names of their own
   pub after_headed_files : (r : Reading) (files : List (List ℕ)) → ((file : List ℕ) → Contains files file → Contains names file)
       → (rest : List HeadedRows → Allowed) → ((heads : List HeadedRows) → RefusesSo names (rest heads))
-      → RefusesSo names (WithHeadedFiles r files rest)
-  after_headed_files r files each rest later =
-      with_refuses names (HeadedFilesStop r files) (AreHeadedFiles r files) rest (headed_files_stop r files each)
-      (λ heads are. later heads)
+      → RefusesSo names (WithFiles headed_file r files rest)
+  after_headed_files r files are_named rest later =
+      after_files headed_file r files are_named (λ file why given. headed_refusal (codes "discover") file why refl given) rest later
 
   -- ---- goals and sets
   -- a refusal of a word at its place

@@ -1,12 +1,11 @@
--- What is left to prove of `of_imported`: its clause `response`.
+-- What is left to prove of `of_imported`: its clause `reads`.
 use Rattle.desk_imports.specs.Columns.{ImportsColumns}
-use Rattle.headed_rows.specs.Headings.{headed_of}
-use Rattle.desk_inputs.specs.FileKinds.{FileStops, IsFile}
-use Rattle.desk_inputs.specs.Headed.{imported_file}
-use Rattle.desk_responses.proofs.StepLemmas.{With-found}
+use Rattle.desk_inputs.specs.Readings.{Reading}
+use Rattle.desk_inputs.proofs.CallLemmas.{not_opened, opened}
 use Rattle.desk_cli.proofs.imports.of_imported.Goals as goal
 
-pub returns-clause-response : goal.returns-clause-response
-returns-clause-response g c = λ r shows.
-    let file = c.args.file.now in
-    With-found (FileStops imported_file r file) (IsFile imported_file r file) ImportsColumns (headed_of c.in-Ok.headed) c.import_columns.result (c.in-Ok.ensures.ok r shows.same) c.import_columns.ensures.response
+pub returns-in-Err : goal.returns-in-Err
+returns-in-Err g c = record { reads = not_opened (λ (r : Reading). ImportsColumns) c.in-Err.ensures.opens }
+
+pub returns : goal.returns
+returns g c = record { reads = opened ImportsColumns c.import_columns.result c.in-Ok.ensures.opens c.import_columns.ensures.response }

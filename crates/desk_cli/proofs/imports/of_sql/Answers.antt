@@ -1,11 +1,13 @@
--- What is left to prove of `of_sql`: its clause `response`.
+-- What is left to prove of `of_sql`: its clause `reads`.
 use Rattle.desk_imports.specs.Imports.{ImportsTable}
-use Rattle.desk_inputs.specs.FileKinds.{FileStops, IsFile}
-use Rattle.desk_inputs.specs.Sql.{sql_file}
-use Rattle.desk_responses.proofs.StepLemmas.{With-found}
+use Rattle.desk_inputs.specs.Readings.{Reading}
+use Rattle.desk_inputs.proofs.CallLemmas.{not_opened, opened}
 use Rattle.desk_cli.proofs.imports.of_sql.Goals as goal
 
-pub returns-clause-response : goal.returns-clause-response
-returns-clause-response g c = λ r shows.
-    let file = c.args.file.now in
-    With-found (FileStops sql_file r file) (IsFile sql_file r file) (ImportsTable c.args.dialect c.args.table.now file) c.in-Ok.text.items c.import_table.result (c.in-Ok.ensures.ok r shows.same) c.import_table.ensures.response
+pub returns-in-Err : goal.returns-in-Err
+returns-in-Err g c = record { reads = not_opened (λ (r : Reading). ImportsTable c.args.dialect c.args.table.now c.args.file.now) c.in-Err.ensures.opens }
+
+pub returns : goal.returns
+returns g c = record {
+  reads = opened (ImportsTable c.args.dialect c.args.table.now c.args.file.now) c.import_table.result c.in-Ok.ensures.opens c.import_table.ensures.response;
+}

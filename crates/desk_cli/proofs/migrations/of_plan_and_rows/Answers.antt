@@ -1,28 +1,37 @@
--- What is left to prove of `of_plan_and_rows`: its clauses `reads` and `response`.
-use Rattle.std.proofs.Common.{inl, inr, ℕ, List, [], ◌∷◌, subst, Option}
-use Rattle.dep_model.specs.Tuples.{Relation}
+-- What is left to prove of `of_plan_and_rows`: its clause `reads`.
+use Rattle.std.proofs.Common.{ℕ, List, [], ◌∷◌, Err, subst, Option}
 use Rattle.plan_printer.specs.NamedPlans.{NamedSchemes, named_schemes}
 use Rattle.desk_tables.specs.Overwriting.{MigratesPlanHere}
-use Rattle.desk_inputs.specs.FileKinds.{FileStops, IsFile, WithFile}
-use Rattle.desk_inputs.specs.Plans.{plan_file}
+use Rattle.desk_inputs.specs.FileKinds.{WithFile}
+use Rattle.desk_inputs.specs.Readings.{Reading}
 use Rattle.desk_inputs.specs.Rows.{rows_file}
-use Rattle.desk_inputs.proofs.BegunLemmas.{front_later, front_longer}
-use Rattle.desk_inputs.proofs.ReadingLemmas.{Shows-later}
-use Rattle.desk_responses.proofs.StepLemmas.{With-found}
 use Rattle.desk_responses.specs.Responses.{RespondsAs}
+use Rattle.desk_inputs.proofs.CallLemmas.{not_opened, opened, opened_then, stopped}
 use Rattle.desk_cli.proofs.migrations.of_plan_and_rows.Goals as goal
 
-pub returns-in-Err-open_rows-clause-response : goal.returns-in-Err-open_rows-clause-response
-returns-in-Err-open_rows-clause-response g c = λ r shows response is.
-    inr (
-      named_schemes c.in-Ok.plan,
-      c.in-Ok.ensures.ok r shows.same,
-      inl (c.in-Err-open_rows.ensures.exit r
-          (Shows-later g.F.FileSource.files g.F.FileSource.faults g.F.FileSource.taken g.F.FileSource.begun c.args.source.now c.open_plan.new.source c.open_rows.new.source r (c.args.planned.now ∷ []) shows c.in-Ok.ensures.files c.in-Ok.ensures.later c.in-Ok.ensures.begins) response is),
-    )
+pub returns-in-Err : goal.returns-in-Err
+returns-in-Err g c =
+    let s = c.args.schema.now in
+    let read = c.args.own.now ∷ c.args.planned.now ∷ c.args.file.now ∷ [] in
+    record {
+      reads = stopped (c.args.file.now ∷ [])
+          (λ (r : Reading) (plan : NamedSchemes). WithFile (rows_file s) r c.args.file.now (MigratesPlanHere s plan.names plan.schemes read)) c.in-Err.ensures.opens;
+    }
 
-pub returns-clause-response : goal.returns-clause-response
-returns-clause-response g c = λ r shows.
+pub returns-in-Err-open_rows : goal.returns-in-Err-open_rows
+returns-in-Err-open_rows g c =
+    let s = c.args.schema.now in
+    let plan = named_schemes c.in-Ok.plan in
+    let read = c.args.own.now ∷ c.args.planned.now ∷ c.args.file.now ∷ [] in
+    record {
+      reads = opened_then
+          (λ (r : Reading) (plan : NamedSchemes). WithFile (rows_file s) r c.args.file.now (MigratesPlanHere s plan.names plan.schemes read))
+          (Err c.in-Err-open_rows.exit) c.in-Ok.ensures.opens
+          (not_opened (λ (r : Reading). MigratesPlanHere s plan.names plan.schemes read) c.in-Err-open_rows.ensures.opens);
+    }
+
+pub returns : goal.returns
+returns g c =
     let s = c.args.schema.now in
     let file = c.args.file.now in
     let read = c.args.own.now ∷ c.args.planned.now ∷ file ∷ [] in
@@ -37,21 +46,7 @@ returns-clause-response g c = λ r shows.
     (subst (λ (d : List ℕ). Answers c.bytes.result.now c.bytes-2.result.now d) c.bytes-3.ensures.bytes
     (subst (λ (names : List (Option (List ℕ))). RespondsAs (MigratesPlanHere s names plan.schemes (c.bytes.result.now ∷ c.bytes-2.result.now ∷ c.bytes-3.result.now ∷ []) rows) result)
     c.deref.ensures.value c.migrate_plan_here.ensures.response))) in
-    let after = Shows-later g.F.FileSource.files g.F.FileSource.faults g.F.FileSource.taken g.F.FileSource.begun c.args.source.now c.open_plan.new.source c.open_rows.new.source r (c.args.planned.now ∷ []) shows c.in-Ok.ensures.files c.in-Ok.ensures.later c.in-Ok.ensures.begins in
-    With-found (FileStops (plan_file s) r c.args.planned.now) (IsFile (plan_file s) r c.args.planned.now) (λ (planned : NamedSchemes). WithFile (rows_file s) r file (λ rows. MigratesPlanHere s planned.names planned.schemes read rows)) plan c.migrate_plan_here.result
-    (c.in-Ok.ensures.ok r shows.same)
-    (With-found (FileStops (rows_file s) r file) (IsFile (rows_file s) r file) (λ (rows : Relation). MigratesPlanHere s plan.names plan.schemes read rows) rows result (c.in-Ok-open_rows.ensures.ok r after.same) response)
-
-pub returns-in-Err-clause-reads : goal.returns-in-Err-clause-reads
-returns-in-Err-clause-reads g c =
-    front_longer (c.args.planned.now ∷ []) (c.args.file.now ∷ []) (g.F.FileSource.begun c.args.source.now) (g.F.FileSource.begun c.open_plan.new.source) c.open_plan.ensures.reads
-
-pub returns-in-Err-open_rows-clause-reads : goal.returns-in-Err-open_rows-clause-reads
-returns-in-Err-open_rows-clause-reads g c =
-    let begun = g.F.FileSource.begun in
-    front_later (c.args.planned.now ∷ []) (c.args.file.now ∷ []) (begun c.args.source.now) (begun c.open_plan.new.source) (begun c.open_rows.new.source) c.in-Ok.ensures.begins c.open_rows.ensures.reads
-
-pub returns-clause-reads : goal.returns-clause-reads
-returns-clause-reads g c =
-    let begun = g.F.FileSource.begun in
-    front_later (c.args.planned.now ∷ []) (c.args.file.now ∷ []) (begun c.args.source.now) (begun c.open_plan.new.source) (begun c.open_rows.new.source) c.in-Ok.ensures.begins c.open_rows.ensures.reads
+    record {
+      reads = opened_then (λ (r : Reading) (plan : NamedSchemes). WithFile (rows_file s) r file (MigratesPlanHere s plan.names plan.schemes read))
+          result c.in-Ok.ensures.opens (opened (MigratesPlanHere s plan.names plan.schemes read) result c.in-Ok-open_rows.ensures.opens response);
+    }

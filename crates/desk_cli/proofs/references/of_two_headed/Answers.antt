@@ -1,47 +1,34 @@
--- What is left to prove of `of_two_headed`: its clauses `reads` and `response`.
-use Rattle.std.proofs.Common.{inl, inr, [], ◌∷◌}
+-- What is left to prove of `of_two_headed`: its clause `reads`.
+use Rattle.std.proofs.Common.{[], ◌∷◌, Err}
 use Rattle.headed_rows.specs.Headings.{HeadedRows, headed_of}
-use Rattle.desk_inputs.specs.FileKinds.{FileStops, IsFile, WithFile}
+use Rattle.desk_inputs.specs.FileKinds.{WithFile}
 use Rattle.desk_inputs.specs.Headed.{headed_file}
-use Rattle.desk_inputs.proofs.BegunLemmas.{front_later, front_longer}
-use Rattle.desk_inputs.proofs.ReadingLemmas.{Shows-later}
+use Rattle.desk_inputs.specs.Readings.{Reading}
 use Rattle.desk_references.specs.Checks.{ChecksReferences}
-use Rattle.desk_responses.proofs.StepLemmas.{With-found}
+use Rattle.desk_inputs.proofs.CallLemmas.{not_opened, opened, opened_then, stopped}
 use Rattle.desk_cli.proofs.references.of_two_headed.Goals as goal
 
-pub returns-in-Err-open_headed-clause-response : goal.returns-in-Err-open_headed-clause-response
-returns-in-Err-open_headed-clause-response g c = λ r shows response is.
-    inr (
-      headed_of c.in-Ok.own,
-      c.in-Ok.ensures.ok r shows.same,
-      inl (c.in-Err-open_headed.ensures.exit r
-          (Shows-later g.F.FileSource.files g.F.FileSource.faults g.F.FileSource.taken g.F.FileSource.begun c.args.source.now c.open_headed.new.source c.open_headed-2.new.source r (c.args.file.now ∷ []) shows c.in-Ok.ensures.files c.in-Ok.ensures.later c.in-Ok.ensures.begins) response is),
-    )
+pub returns-in-Err : goal.returns-in-Err
+returns-in-Err g c = record {
+  reads = stopped (c.args.other.now ∷ [])
+      (λ (r : Reading) (own : HeadedRows). WithFile headed_file r c.args.other.now (λ others. ChecksReferences own c.args.names.now others c.args.other_names.now))
+      c.in-Err.ensures.opens;
+}
 
-pub returns-clause-response : goal.returns-clause-response
-returns-clause-response g c = λ r shows.
-    let file = c.args.file.now in
-    let other = c.args.other.now in
-    let own = headed_of c.in-Ok.own in
-    let result = c.check_references.result in
-    let after = Shows-later g.F.FileSource.files g.F.FileSource.faults g.F.FileSource.taken g.F.FileSource.begun c.args.source.now c.open_headed.new.source c.open_headed-2.new.source r (file ∷ []) shows c.in-Ok.ensures.files c.in-Ok.ensures.later c.in-Ok.ensures.begins in
-    With-found (FileStops headed_file r file) (IsFile headed_file r file)
-    (λ (rows : HeadedRows). WithFile headed_file r other (λ others. ChecksReferences rows c.args.names.now others c.args.other_names.now)) own result
-    (c.in-Ok.ensures.ok r shows.same)
-    (With-found (FileStops headed_file r other) (IsFile headed_file r other)
-    (λ (others : HeadedRows). ChecksReferences own c.args.names.now others c.args.other_names.now) (headed_of c.in-Ok-open_headed.others) result
-    (c.in-Ok-open_headed.ensures.ok r after.same) c.check_references.ensures.response)
+pub returns-in-Err-open_headed : goal.returns-in-Err-open_headed
+returns-in-Err-open_headed g c = record {
+  reads = opened_then
+      (λ (r : Reading) (own : HeadedRows). WithFile headed_file r c.args.other.now (λ others. ChecksReferences own c.args.names.now others c.args.other_names.now))
+      (Err c.in-Err-open_headed.exit) c.in-Ok.ensures.opens
+      (not_opened (λ (r : Reading) (others : HeadedRows). ChecksReferences (headed_of c.in-Ok.own) c.args.names.now others c.args.other_names.now)
+      c.in-Err-open_headed.ensures.opens);
+}
 
-pub returns-in-Err-clause-reads : goal.returns-in-Err-clause-reads
-returns-in-Err-clause-reads g c =
-    front_longer (c.args.file.now ∷ []) (c.args.other.now ∷ []) (g.F.FileSource.begun c.args.source.now) (g.F.FileSource.begun c.open_headed.new.source) c.open_headed.ensures.reads
-
-pub returns-in-Err-open_headed-clause-reads : goal.returns-in-Err-open_headed-clause-reads
-returns-in-Err-open_headed-clause-reads g c =
-    let begun = g.F.FileSource.begun in
-    front_later (c.args.file.now ∷ []) (c.args.other.now ∷ []) (begun c.args.source.now) (begun c.open_headed.new.source) (begun c.open_headed-2.new.source) c.in-Ok.ensures.begins c.open_headed-2.ensures.reads
-
-pub returns-clause-reads : goal.returns-clause-reads
-returns-clause-reads g c =
-    let begun = g.F.FileSource.begun in
-    front_later (c.args.file.now ∷ []) (c.args.other.now ∷ []) (begun c.args.source.now) (begun c.open_headed.new.source) (begun c.open_headed-2.new.source) c.in-Ok.ensures.begins c.open_headed-2.ensures.reads
+pub returns : goal.returns
+returns g c = record {
+  reads = opened_then
+      (λ (r : Reading) (own : HeadedRows). WithFile headed_file r c.args.other.now (λ others. ChecksReferences own c.args.names.now others c.args.other_names.now))
+      c.check_references.result c.in-Ok.ensures.opens
+      (opened (λ (others : HeadedRows). ChecksReferences (headed_of c.in-Ok.own) c.args.names.now others c.args.other_names.now) c.check_references.result
+      c.in-Ok-open_headed.ensures.opens c.check_references.ensures.response);
+}

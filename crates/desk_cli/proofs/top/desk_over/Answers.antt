@@ -11,24 +11,21 @@ use Rattle.desk_cli.proofs.top.desk_over.Goals as goal
 
 pub returns : goal.returns
 returns g c =
-    let files = g.F.FileSource.files in
-    let faults = g.F.FileSource.faults in
-    let taken = g.F.FileSource.taken in
-    let begun = g.F.FileSource.begun in
     let old = c.args.source.now in
     let new = c.answer.new.source in
-    let source = source_in_call (files old) (files new) (faults old) (faults new) (taken new) (begun old) (begun new) in
+    let source = source_in_call g.F.FileSource old new in
     let sink = sink_in_call (g.K.Sink.contents c.args.out.now) (g.K.Sink.contents c.deliver.new.out) (g.K.Sink.faults c.args.out.now) (g.K.Sink.faults c.deliver.new.out) in
     let notices = sink_in_call (g.N.Sink.contents c.args.notices.now) (g.N.Sink.contents c.deliver.new.notices) (g.N.Sink.faults c.args.notices.now) (g.N.Sink.faults c.deliver.new.notices) in
     let destinations = destinations_in_call g.D.Folder.state c.args.destinations.now.items c.deliver.new.destinations.items in
     let own = folder_in_call g.G.Folder.state c.args.own.now c.deliver.new.own in
     let result = c.deliver.result in
+    let reads = c.in_ok-response.ensures.reads in
     let response = response_value c.in_ok-response.response in
     let delivered : Delivered sink notices (hint_of c.args.words.now) destinations own response result =
     subst (λ (hint : List ℕ). Delivered sink notices hint destinations own response result) (c.deref.ensures.value ∙ c.in_ok-hint.ensures.hint) c.deliver.ensures.delivers in
     record {
       desk = desk_delivered c.args.words.now source sink notices destinations own response result
-          (λ last is. c.in_ok-response.ensures.response _ (observed_shows files faults taken begun old new last is))
-          (λ fs are calm. c.in_ok-response.ensures.response (known_files fs) (known_files_shows files faults taken begun old new fs are calm))
-          delivered c.in_ok-response.ensures.files c.in_ok-response.ensures.later c.in_ok-response.ensures.reads;
+          (λ last is. reads.ends _ (observed_shows g.F.FileSource old new last is))
+          (λ files are calm. reads.ends (known_files files) (known_files_shows g.F.FileSource old new files are calm))
+          delivered reads.files reads.later reads.begins;
     }

@@ -1,41 +1,26 @@
--- What is left to prove of `open_derivation`: its clauses `ok`, `derivation` and `exit` and what
--- `derivation_refusal_exit` requires, by `refusal_stops`.
-use Rattle.std.proofs.Common.{ℕ, List, subst}
-use Rattle.dep_model.proofs.FailureLemmas.{refused_is}
+-- What is left to prove of `open_derivation`: its clauses `opens`, by `KindLemmas`, and `derivation`, and what
+-- `derivation_refusal_line` requires.
 use Rattle.schema_model.specs.Schemas.{universe_of}
-use Rattle.schema_printer.specs.Spelling.{printed_names_of}
 use Rattle.proof_grammar.specs.Diagnostics.{line_diagnostic_of}
-use Rattle.derivation_grammar.specs.Meanings.{MeansDerivation}
-use Rattle.derivation_grammar.specs.Refusals.{RefusesDerivation}
-use Rattle.derivation_text.specs.Views.{derivation_lines_of}
-use Rattle.desk_responses.specs.ResponseValues.{Says}
-use Rattle.desk_responses.specs.declared.status.Status.TheVariants.{Refused}
-use Rattle.desk_refusals.specs.ProofTexts.{derivation_refusal_text}
-use Rattle.desk_responses.specs.Responses.{ExitsAs}
-use Rattle.desk_inputs.proofs.KindLemmas.{refusal_stops}
 use Rattle.desk_inputs.specs.Inputs.{derivation_file}
+use Rattle.dep_model.proofs.FailureLemmas.{refused_is}
+use Rattle.desk_inputs.proofs.KindLemmas.{file_not_loaded, file_read, file_refused}
 use Rattle.desk_inputs.proofs.derived.open_derivation.Goals as goal
 
-pub returns-in-Ok-read_derivation-clause-ok : goal.returns-in-Ok-read_derivation-clause-ok
-returns-in-Ok-read_derivation-clause-ok g c = λ r same. record {
-  bytes = c.in-Ok.bytes.items;
-  content = c.in-Ok.ensures.ok r same;
-  means = subst (λ (bytes : List ℕ). MeansDerivation c.args.schema.now bytes (derivation_lines_of c.in-Ok-read_derivation.lines.items)) c.deref.ensures.value c.in-Ok-read_derivation.ensures.ok;
-}
+pub returns-in-Ok-read_derivation-clause-opens : goal.returns-in-Ok-read_derivation-clause-opens
+returns-in-Ok-read_derivation-clause-opens g c = file_read (derivation_file c.args.schema.now) c.in-Ok.ensures.loads c.deref.ensures.value c.in-Ok-read_derivation.ensures.ok
 
 pub returns-in-Ok-read_derivation-clause-derivation : goal.returns-in-Ok-read_derivation-clause-derivation
 returns-in-Ok-read_derivation-clause-derivation g c = (_, c.in-Ok-read_derivation.ensures.ok)
 
-pub derivation_refusal_exit-requires : goal.derivation_refusal_exit-requires
-derivation_refusal_exit-requires g c = record {
+pub derivation_refusal_line-requires : goal.derivation_refusal_line-requires
+derivation_refusal_line-requires g c = record {
   within = refused_is _ _ _ c.in-Err-Refused.field-0-is (c.in-Err-Refused.ensures.within (universe_of c.args.schema.now));
 }
 
-pub returns-in-Err-Refused-clause-exit : goal.returns-in-Err-Refused-clause-exit
-returns-in-Err-Refused-clause-exit g c = λ r shows.
-    let s = c.args.schema.now in
-    let refusal = c.in-Err-Refused.refusal in
-    let refused = refused_is _ _ _ c.in-Err-Refused.field-0-is c.in-Err-Refused.ensures.err in
-    let of_bytes = subst (λ (bytes : List ℕ). RefusesDerivation s bytes refusal) c.deref.ensures.value refused in
-    let exits_as = subst (λ (name : List ℕ). ExitsAs (Says Refused (derivation_refusal_text (printed_names_of s) name (line_diagnostic_of refusal))) c.derivation_refusal_exit.result) c.bytes.ensures.bytes c.derivation_refusal_exit.ensures.says in
-    refusal_stops (derivation_file s) r c.args.name.now c.in-Ok.bytes.items (line_diagnostic_of refusal) c.derivation_refusal_exit.result (c.in-Ok.ensures.ok r shows.same) of_bytes exits_as
+pub returns-in-Err-Refused-clause-opens : goal.returns-in-Err-Refused-clause-opens
+returns-in-Err-Refused-clause-opens g c = file_refused (derivation_file c.args.schema.now) (line_diagnostic_of c.in-Err-Refused.refusal) c.in-Ok.ensures.loads c.deref.ensures.value (refused_is _ _ _ c.in-Err-Refused.field-0-is c.in-Err-Refused.ensures.err)
+    c.bytes.ensures.bytes (c.with_text.ensures.says _ c.derivation_refusal_line.ensures.text)
+
+pub returns-in-Err-clause-opens : goal.returns-in-Err-clause-opens
+returns-in-Err-clause-opens g c = file_not_loaded (derivation_file c.args.schema.now) c.in-Err.ensures.loads

@@ -1,33 +1,22 @@
--- What is left to prove of `open_plan`: its clauses `ok`, `within_limit`, `covers` and `exit`, by
--- `refusal_stops`.
-use Rattle.std.proofs.Common.{◌≤◌, ℕ, List, length, ap, sym, subst}
+-- What is left to prove of `open_plan`: its clauses `opens`, by `KindLemmas`, `universe`, `within_limit` and `covers`.
+use Rattle.std.proofs.Common.{◌≤◌, length, ap, sym, subst}
 use Rattle.plan_printer.specs.NamedPlans.{named_schemes}
 use Rattle.plans.specs.Plans.{plan_of, IsPlanOver}
 use Rattle.plans.specs.declared.plan.Plan.{Plan}
 use Rattle.dep_model.specs.Projections.{Covers}
 use Rattle.plans.specs.declared.bounds.TheConstants.{MOST_SCHEMES}
+use Rattle.schema_model.specs.Schemas.{width_of, theory_in}
+use Rattle.desk_inputs.specs.Plans.{plan_file}
 use Rattle.dep_model.proofs.FailureLemmas.{refused_is}
-use Rattle.schema_model.specs.Schemas.{naming_of, names_of, width_of, theory_in}
-use Rattle.schema_printer.specs.Spelling.{printed_names_of}
-use Rattle.plan_grammar.specs.Diagnostics.{RefusesPlan}
-use Rattle.plan_grammar.specs.Meanings.{MeansPlan}
-use Rattle.desk_responses.specs.ResponseValues.{Says}
-use Rattle.desk_inputs.specs.Plans.{plan_file, plan_refusal_text}
-use Rattle.desk_responses.specs.declared.status.Status.TheVariants.{Refused}
-use Rattle.desk_responses.specs.Responses.{ExitsAs}
-use Rattle.desk_inputs.proofs.KindLemmas.{refusal_stops}
+use Rattle.desk_inputs.proofs.KindLemmas.{file_not_loaded, file_read, file_refused}
 use Rattle.desk_inputs.proofs.plan.open_plan.Goals as goal
 
-pub returns-in-Ok-read_plan-clause-ok : goal.returns-in-Ok-read_plan-clause-ok
-returns-in-Ok-read_plan-clause-ok g c = λ r same. record {
-  bytes = c.in-Ok.bytes.items;
-  content = c.in-Ok.ensures.ok r same;
-  means = record {
-    read = named_schemes c.in-Ok-read_plan.plan;
-    means = subst (λ (bytes : List ℕ). MeansPlan (naming_of c.args.schema.now) (names_of c.args.schema.now) bytes (named_schemes c.in-Ok-read_plan.plan)) c.deref.ensures.value c.in-Ok-read_plan.ensures.ok;
-    schemes = ap plan_of c.in_ok-in_order-in-Ok-read_plan.ensures.plan;
-    order = c.in_ok-in_order-in-Ok-read_plan.ensures.order;
-  };
+pub returns-in-Ok-read_plan-clause-opens : goal.returns-in-Ok-read_plan-clause-opens
+returns-in-Ok-read_plan-clause-opens g c = file_read (plan_file c.args.schema.now) c.in-Ok.ensures.loads c.deref.ensures.value record {
+  read = named_schemes c.in-Ok-read_plan.plan;
+  means = c.in-Ok-read_plan.ensures.ok;
+  schemes = ap plan_of c.in_ok-in_order-in-Ok-read_plan.ensures.plan;
+  order = c.in_ok-in_order-in-Ok-read_plan.ensures.order;
 }
 
 pub returns-in-Ok-read_plan-clause-universe : goal.returns-in-Ok-read_plan-clause-universe
@@ -42,11 +31,9 @@ pub returns-in-Ok-read_plan-clause-covers : goal.returns-in-Ok-read_plan-clause-
 returns-in-Ok-read_plan-clause-covers g c =
     subst (λ (plan : Plan). Covers (width_of c.args.schema.now) (plan_of plan)) (sym c.in_ok-in_order-in-Ok-read_plan.ensures.plan) c.in-Ok-read_plan.ensures.ok.covers
 
-pub returns-in-Err-Refused-clause-exit : goal.returns-in-Err-Refused-clause-exit
-returns-in-Err-Refused-clause-exit g c = λ r shows.
-    let s = c.args.schema.now in
-    let refusal = c.in-Err-Refused.refusal in
-    let refuses = refused_is _ _ _ c.in-Err-Refused.field-0-is c.in-Err-Refused.ensures.err in
-    let refused = subst (λ (bytes : List ℕ). RefusesPlan (naming_of s) (names_of s) bytes refusal) c.deref.ensures.value refuses in
-    let exits_as = subst (λ (name : List ℕ). ExitsAs (Says Refused (plan_refusal_text (printed_names_of s) name refusal)) c.plan_refusal_exit.result) c.bytes.ensures.bytes c.plan_refusal_exit.ensures.says in
-    refusal_stops (plan_file s) r c.args.name.now c.in-Ok.bytes.items refusal c.plan_refusal_exit.result (c.in-Ok.ensures.ok r shows.same) refused exits_as
+pub returns-in-Err-Refused-clause-opens : goal.returns-in-Err-Refused-clause-opens
+returns-in-Err-Refused-clause-opens g c = file_refused (plan_file c.args.schema.now) c.in-Err-Refused.refusal c.in-Ok.ensures.loads c.deref.ensures.value (refused_is _ _ _ c.in-Err-Refused.field-0-is c.in-Err-Refused.ensures.err)
+    c.bytes.ensures.bytes (c.with_text.ensures.says _ c.plan_refusal_line.ensures.text)
+
+pub returns-in-Err-clause-opens : goal.returns-in-Err-clause-opens
+returns-in-Err-clause-opens g c = file_not_loaded (plan_file c.args.schema.now) c.in-Err.ensures.loads

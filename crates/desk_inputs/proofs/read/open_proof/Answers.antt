@@ -1,37 +1,21 @@
--- What is left to prove of `open_proof`: its clauses `ok` and `exit` and what `proof_refusal_exit`
--- requires, by `refusal_stops`.
-use Rattle.std.proofs.Common.{ℕ, List, subst}
-use Rattle.derivation.specs.Derivs.{tree_of}
-use Rattle.dep_model.proofs.FailureLemmas.{refused_is}
-use Rattle.schema_printer.specs.Spelling.{printed_names_of}
+-- What is left to prove of `open_proof`: its clause `opens`, by `KindLemmas`, and what `proof_refusal_line` requires.
 use Rattle.proof_grammar.specs.Diagnostics.{line_diagnostic_of}
-use Rattle.proof_grammar.specs.Refusals.{RefusesProof}
-use Rattle.proof_grammar.specs.Spelling.{SpellsWithin}
-use Rattle.desk_responses.specs.ResponseValues.{Says}
-use Rattle.desk_responses.specs.declared.status.Status.TheVariants.{Refused}
-use Rattle.desk_refusals.specs.ProofTexts.{proof_refusal_text}
-use Rattle.desk_responses.specs.Responses.{ExitsAs}
-use Rattle.desk_inputs.proofs.KindLemmas.{refusal_stops}
 use Rattle.desk_inputs.specs.Inputs.{proof_file}
+use Rattle.dep_model.proofs.FailureLemmas.{refused_is}
+use Rattle.desk_inputs.proofs.KindLemmas.{file_not_loaded, file_read, file_refused}
 use Rattle.desk_inputs.proofs.read.open_proof.Goals as goal
 
-pub returns-in-Ok-read_concluded-clause-ok : goal.returns-in-Ok-read_concluded-clause-ok
-returns-in-Ok-read_concluded-clause-ok g c = λ r same. record {
-  bytes = c.in-Ok.bytes.items;
-  content = c.in-Ok.ensures.ok r same;
-  means = subst (λ (bytes : List ℕ). SpellsWithin c.args.schema.now bytes (tree_of c.in-Ok-read_concluded.read.deriv.value)) c.deref.ensures.value c.in-Ok-read_concluded.ensures.ok;
-}
+pub returns-in-Ok-read_concluded-clause-opens : goal.returns-in-Ok-read_concluded-clause-opens
+returns-in-Ok-read_concluded-clause-opens g c = file_read (proof_file c.args.schema.now) c.in-Ok.ensures.loads c.deref.ensures.value c.in-Ok-read_concluded.ensures.ok
 
-pub proof_refusal_exit-requires : goal.proof_refusal_exit-requires
-proof_refusal_exit-requires g c = record {
+pub proof_refusal_line-requires : goal.proof_refusal_line-requires
+proof_refusal_line-requires g c = record {
   within = refused_is _ _ _ c.in-Err-Refused.field-0-is c.in-Err-Refused.ensures.within;
 }
 
-pub returns-in-Err-Refused-clause-exit : goal.returns-in-Err-Refused-clause-exit
-returns-in-Err-Refused-clause-exit g c = λ r shows.
-    let s = c.args.schema.now in
-    let refusal = c.in-Err-Refused.refusal in
-    let refused = refused_is _ _ _ c.in-Err-Refused.field-0-is c.in-Err-Refused.ensures.err in
-    let of_bytes = subst (λ (bytes : List ℕ). RefusesProof s bytes refusal) c.deref.ensures.value refused in
-    let exits_as = subst (λ (name : List ℕ). ExitsAs (Says Refused (proof_refusal_text (printed_names_of s) name (line_diagnostic_of refusal))) c.proof_refusal_exit.result) c.bytes.ensures.bytes c.proof_refusal_exit.ensures.says in
-    refusal_stops (proof_file s) r c.args.name.now c.in-Ok.bytes.items (line_diagnostic_of refusal) c.proof_refusal_exit.result (c.in-Ok.ensures.ok r shows.same) of_bytes exits_as
+pub returns-in-Err-Refused-clause-opens : goal.returns-in-Err-Refused-clause-opens
+returns-in-Err-Refused-clause-opens g c = file_refused (proof_file c.args.schema.now) (line_diagnostic_of c.in-Err-Refused.refusal) c.in-Ok.ensures.loads c.deref.ensures.value (refused_is _ _ _ c.in-Err-Refused.field-0-is c.in-Err-Refused.ensures.err)
+    c.bytes.ensures.bytes (c.with_text.ensures.says _ c.proof_refusal_line.ensures.text)
+
+pub returns-in-Err-clause-opens : goal.returns-in-Err-clause-opens
+returns-in-Err-clause-opens g c = file_not_loaded (proof_file c.args.schema.now) c.in-Err.ensures.loads

@@ -1,5 +1,0 @@
--- What is left to prove of `plan_refusal_exit`: its clause `says`.
-use Rattle.desk_inputs.proofs.plan.plan_refusal_exit.Goals as goal
-
-pub returns : goal.returns
-returns c = record { says = λ response is. c.with_text.ensures.says _ c.plan_refusal_line.ensures.text response is }

@@ -1,5 +1,0 @@
--- What is left to prove of `proof_refusal_exit`: its clause `says`.
-use Rattle.desk_inputs.proofs.read.proof_refusal_exit.Goals as goal
-
-pub returns : goal.returns
-returns c = record { says = λ response is. c.with_text.ensures.says _ c.proof_refusal_line.ensures.text response is }
