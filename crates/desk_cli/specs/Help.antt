@@ -6,7 +6,7 @@ use Rattle.nearest_lines.specs.Nearest.{nearest}
 use Rattle.desk_texts.specs.Texts.{line}
 
 abbrev pub version_text : List ℕ
-version_text = line (codes "desk 0.13.0")
+version_text = line (codes "desk 0.13.1")
 
 -- the commands, a line for each, which stand in the code alone
 abbrev pub help_text : List ℕ

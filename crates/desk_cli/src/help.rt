@@ -96,7 +96,7 @@ pub fn nearest_commands(alloc: Global, words: &[Argument]) -> Result<Vec<u8>, Ou
 pub fn version(alloc: Global) -> Result<Response, EarlyExit>
     ensures response { RespondsAs (Says Status.Yes version_text) result }
 {
-    match Vec::from_slice(alloc, b"desk 0.13.0\n") {
+    match Vec::from_slice(alloc, b"desk 0.13.1\n") {
         Ok(text) => Ok(Response::with_text(Status::Yes, text)),
         Err(_) => Err(EarlyExit::OutOfMemory),
     }
