@@ -1,12 +1,12 @@
 -- What follows of calls that open files, one after the other.
-use Rattle.std.proofs.Common.{◌≡◌, ℕ, ◌≤◌, arith, List, [], ◌∷◌, ◌++◌, Result, Ok, Err, inl, refl, ◌∙◌}
+use Rattle.std.proofs.Common.{ℕ, arith, List, ◌++◌, Result, Ok, Err, inl, refl, ◌∙◌}
 use Rattle.desk_outside.specs.declared.file_source.FileSource.{Ghosts as FileSource}
 use Rattle.desk_responses.specs.declared.response.EarlyExit.{EarlyExit}
 use Rattle.desk_responses.specs.declared.response.Response.{Response}
 use Rattle.desk_responses.specs.ResponseValues.{Allowed, With}
 use Rattle.desk_responses.specs.Responses.{RespondsAs}
 use Rattle.desk_responses.proofs.StepLemmas.{With-found}
-use Rattle.desk_inputs.specs.FileCalls.{Opens, Reads, Shows}
+use Rattle.desk_inputs.specs.FileCalls.{Opens, Reads}
 use Rattle.desk_inputs.specs.Readings.{Reading}
 use Rattle.desk_inputs.proofs.BegunLemmas.{front_later, front_longer, front_none}
 use Rattle.desk_inputs.proofs.ReadingLemmas.{Shows-later}

@@ -1,5 +1,5 @@
 -- What is left to prove of `open_headed`: its clauses that name the limits and the command.
-use Rattle.std.proofs.Common.{◌≤◌, ◌≡◌, List, ℕ, length, subst}
+use Rattle.std.proofs.Common.{◌≤◌, List, ℕ, length, subst}
 use Rattle.std.specs.Prelude.{IfOk}
 use Rattle.headed_rows.specs.Headers.{IsHeaderWithin}
 use Rattle.headed_rows.specs.Headings.{headed_of}

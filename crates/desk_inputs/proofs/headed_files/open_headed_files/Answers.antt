@@ -1,13 +1,13 @@
 -- What is left to prove of `open_headed_files`: its clause `opens`, by `FilesLemmas`, and that a round of its loop keeps
 -- the invariant, by `one_more_opened`.
-use Rattle.std.proofs.Common.{rules, ◌≡◌, ◌+◌, ℕ, List, [], ◌∷◌, ◌++◌, length, map, arith, ap, refl, sym, subst, ◌∙◌}
+use Rattle.std.proofs.Common.{rules, ◌≡◌, ◌+◌, [], ◌∷◌, ◌++◌, length, map, arith, ap, refl, sym, subst, ◌∙◌}
 use Rattle.std.proofs.lemmas.Grind.{common_steps}
 use Rattle.std.proofs.lemmas.List.{map-append}
 use Rattle.std.proofs.lemmas.List.Elements.{All-push}
 use Rattle.std.specs.Prelude.{All}
 use Rattle.dep_model.specs.Tuples.{IsOver}
 use Rattle.headed_rows.specs.Headers.{IsColumnHeader}
-use Rattle.headed_rows.specs.Headings.{HeadedRows, headed_of}
+use Rattle.headed_rows.specs.Headings.{headed_of}
 use Rattle.headed_rows.specs.declared.headed_rows.Headed.{Headed}
 use Rattle.desk_inputs.specs.Headed.{headed_file}
 use Rattle.desk_inputs.proofs.FilesLemmas.{OpenedSome, none_opened, one_more_opened, all_opened, one_stops, none_held}
