@@ -1,5 +1,5 @@
 -- What nearly holds where no row may go: what the rows obey.
-use Rattle.std.proofs.Common.{◌≡◌, ◌≤◌, ℕ, List, subst, arith}
+use Rattle.std.proofs.Common.{◌≡◌, ℕ, List, subst, arith}
 use Rattle.std.proofs.lemmas.List.Elements.{All-weaker}
 use Rattle.attr_sets.specs.Attributes.{Attributes, only}
 use Rattle.dep_model.specs.Dependencies.{Dependency, ObeysFd, fd}
